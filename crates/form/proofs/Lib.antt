@@ -1,0 +1,10 @@
+pub mod Checking
+pub mod Lawful
+pub mod Naming
+pub mod Operations
+pub mod Parting
+pub mod Promised
+pub mod Refusing
+pub mod Saying
+pub mod Spelling
+pub mod Steps

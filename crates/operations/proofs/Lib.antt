@@ -1,0 +1,4 @@
+pub mod Codes
+pub mod Fits
+pub mod Vets
+pub mod Words
