@@ -4,7 +4,7 @@ use mathlib.Core.Logic.{_⊎_, inl, inr, ⊎-elim}
 use mathlib.Core.List.{List}
 use Prim.Native.Nat.{ℕ, _+_, _-_, _≤_, _<_, min}
 use native.Mathlib.Omega.{arith}
-use lib.ListN.{getD}
+use lib.ListN.{length, getD}
 use Rattle.std.specs.Holes.{between}
 use Rattle.std.specs.declared.result.Result.the-variants.{Err}
 use Rattle.std.proofs.shelf.Edits.{length-between}
@@ -20,31 +20,27 @@ module _ (o : Order) (room k : ℕ) (text : List ℕ) (from : ℕ) where
   line-long : (m : ℕ) → Ended text from m → 80 < m - from → entry o room k (between from m text) ≡ Err LineEnd
   line-long m e h = let long = length-between text from m (omega (arith, e .high)) in entry-long o room k _ (omega arith)
 
-  -- no room, unless the line has no end or is too long
-  pub blamed-full : (r : Cause) → min 512 room ≤ k → Blamed text from NoRoom r → Fails (entry o room k) text from r
-  blamed-full r h b =
+  -- a cause that every line of at most 80 bytes gives, unless the line has no end or is too long
+  blamed : (other r : Cause) → ((m : ℕ) → Ended text from m → length (between from m text) ≤ 80 → entry o room k (between from m text) ≡ Err other) → Blamed text from other r → Fails (entry o room k) text from r
+  blamed other r gives b =
       ⊎-elim
       inr
       (λ b′. inl (⊎-elim
-      (λ x. (x .0, x .1, line-long (x .0) (x .1) (x .2) ∙ ap Err (sym (x .3))))
-      (λ x.
-      let long = length-between text from (x .0) (omega (arith, x .1 .high)) in
-      (x .0, x .1, entry-full o room k (between from (x .0) text) (omega (arith, x .2)) h ∙ ap Err (sym (x .3))))
-      b′))
+        (λ x. (x .0, x .1, line-long (x .0) (x .1) (x .2) ∙ ap Err (sym (x .3))))
+        (λ x.
+            let long = length-between text from (x .0) (omega (arith, x .1 .high)) in
+            (x .0, x .1, gives (x .0) (x .1) (omega (arith, x .2)) ∙ ap Err (sym (x .3))))
+        b′))
       b
 
-  -- not five values, unless the line has no end or is too long
+  pub blamed-full : (r : Cause) → min 512 room ≤ k → Blamed text from NoRoom r → Fails (entry o room k) text from r
+  blamed-full r h = blamed NoRoom r (λ m e short. entry-full o room k (between from m text) short h)
+
   pub blamed-count : (r : Cause) → k < min 512 room → Misfit text from → Blamed text from ValueCount r → Fails (entry o room k) text from r
-  blamed-count r h misfit b =
-      ⊎-elim
-      inr
-      (λ b′. inl (⊎-elim
-      (λ x. (x .0, x .1, line-long (x .0) (x .1) (x .2) ∙ ap Err (sym (x .3))))
-      (λ x.
-      let long = length-between text from (x .0) (omega (arith, x .1 .high)) in
-      (x .0, x .1, entry-count o room k (between from (x .0) text) (omega (arith, x .2)) h (misfit (x .0) (x .1) (x .2)) ∙ ap Err (sym (x .3))))
-      b′))
-      b
+  blamed-count r h misfit =
+      blamed ValueCount r (λ m e short.
+        let long = length-between text from m (omega (arith, e .high)) in
+        entry-count o room k (between from m text) short h (misfit m e (omega arith)))
 
   module _ (starts : List ℕ) (five : Five text starts) (at : getD starts 0 0 ≡ from) where
     -- a line that was cut into five
