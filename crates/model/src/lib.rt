@@ -1,4 +1,6 @@
 // The model: what the machine does, what a plain history book says, and the theorem that they agree.
+#![tactic(auto)]
+
 pub mod answer;
 pub mod call;
 pub mod laws;

@@ -1,4 +1,6 @@
 // Plain numbers: no leading zero, no plus, no -0.
+#![tactic(auto)]
+
 ghost use Rattle.std.specs.Prelude.{◌≡◌, ◌-◌, ◌^◌};
 ghost use Rattle.numerals.specs.Numerals.{bounded, natural, above, below, number_in, Writes, natural_in, WritesNatural};
 

@@ -1,4 +1,6 @@
 // Operations: the table of the 22 codes, records of plain numbers, and programs whose records have been vetted.
+#![tactic(auto)]
+
 pub mod code;
 pub mod listing;
 pub mod operation;

@@ -1,4 +1,6 @@
 // What vetting, the table of operations and refusals do on examples.
+#![tactic(auto)]
+
 pub mod answers;
 #[cfg(test)]
 mod refusals;

@@ -1,3 +1,5 @@
 // Plays scripts: the heaps and racks that they name, and what is printed.
+#![tactic(auto)]
+
 pub mod chosen;
 pub mod play;

@@ -1,4 +1,6 @@
 // The scorer's program: lists modules, or plays scripts, as its arguments say.
+#![tactic(auto)]
+
 use listing::listing::list_all;
 use playing::play::play_all;
 use std::env;

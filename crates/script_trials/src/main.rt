@@ -1,4 +1,6 @@
 // Trials: plays the scripts that its arguments name, over every heap and rack.
+#![tactic(auto)]
+
 use playing::play::play_all;
 use std::env;
 

@@ -1,4 +1,6 @@
 // Scripts: lines of calls on a heap and a rack, and what each line says.
+#![tactic(auto)]
+
 pub mod command;
 pub mod entry;
 pub mod names;

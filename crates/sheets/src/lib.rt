@@ -1,4 +1,6 @@
 // The placement sheet of a heap: its blocks and gaps by address, as values and as lines.
+#![tactic(auto)]
+
 pub mod drawing;
 pub mod sheet;
 pub mod stretch;

@@ -1,4 +1,6 @@
 // The reader of a module's text.
+#![tactic(auto)]
+
 mod columns;
 mod cuts;
 mod entries;

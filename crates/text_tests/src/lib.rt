@@ -1,4 +1,6 @@
 // What reading a text does on examples.
+#![tactic(auto)]
+
 #[cfg(test)]
 mod columns;
 #[cfg(test)]

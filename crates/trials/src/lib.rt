@@ -1,4 +1,6 @@
 // Worked trials of the machine and of the history book.
+#![tactic(auto)]
+
 ghost use Rattle.trials.specs.Rows.{Every};
 ghost use Rattle.trials.specs.Table.{table};
 

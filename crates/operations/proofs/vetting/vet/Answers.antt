@@ -17,14 +17,14 @@ by_value ops r e = subst (λ x. Vetted ops x) (sym e) (vetting_law ops)
 pub loop-position-init : goal.loop-position-init
 loop-position-init c = (refl, refl, λ k h. absurd (omega arith))
 
-pub returns-in-err-steps : goal.returns-in-err-steps
-returns-in-err-steps c =
+pub returns-in_err-steps : goal.returns-in_err-steps
+returns-in_err-steps c =
     let ops = c.args.operations.now in
     let p = err_from_is_err_and c.from-residual.result c.from-residual.ensures.1 in
     let value : steps_in c.from-residual.result ≡ vetting ops =
     ap steps_in p.1
     ∙ ap Err p.2
-    ∙ halt (length ops) _ ops c.loop-position.position _ (omega arith) _ c.in-err-steps.ensures.value
+    ∙ halt (length ops) _ ops c.loop-position.position _ (omega arith) _ c.in_err-steps.ensures.value
     ∙ c.loop-position.invariant.1
     ∙ sym (vetting_on ops c.if-count-eq0.false (omega arith)) in
     record { value = value; law = by_value ops _ value }
@@ -34,9 +34,9 @@ loop-position-preserved c =
     let i = c.loop-position.position in
     let steps = c.loop-position.steps in
     let ops = c.args.operations.now in
-    let s = c.in-ok-steps.field-0 in
+    let s = c.in_ok-steps.field-0 in
     let inv = c.loop-position.invariant in
-    let told = c.in-ok-steps.ensures in
+    let told = c.in_ok-steps.ensures in
     let lt : i < length ops = omega arith in
     let room : i < length steps = omega (arith, inv.0) in (
       length-set steps i s ∙ inv.0,
@@ -48,8 +48,8 @@ loop-position-preserved c =
           (subst (λ x. SoundStep (length ops) x) (sym (get_or-set_same steps i s stop room)) told.sound),
     )
 
-pub invariant-of-result : goal.invariant-of-result
-invariant-of-result c =
+pub invariant_of-result : goal.invariant_of-result
+invariant_of-result c =
     let inv = c.loop-position.invariant in
     (inv.0, (omega arith, (omega arith, ((λ k h. inv.2 k (omega arith)), tt))))
 

@@ -4,11 +4,11 @@ use Rattle.operations.specs.Vetting.{vet_step}
 use Rattle.operations.proofs.Fits.{gave}
 use Rattle.operations.proofs.vetting.vet_record.Goals as goal
 
-pub returns-then-target-fits : goal.returns-then-target-fits
-returns-then-target-fits c =
+pub returns-then-target_fits : goal.returns-then-target_fits
+returns-then-target_fits c =
     let s = c.in-Some.step in
     let given = c.in-Some.ensures in
-    let target = sym c.if-target-fits.ensures in
+    let target = sym c.if-target_fits.ensures in
     record {
       value = sym (ap (vet_step c.args.count c.args.operation.now.line) (sym given.value) ∙ cond-true _ (Ok s) _ target);
       sound = (given.registers.d, given.registers.a, given.registers.b, (gave c.args.operation.now s (sym given.value)).fits, target);

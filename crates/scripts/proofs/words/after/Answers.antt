@@ -7,5 +7,5 @@ use Rattle.std.proofs.lemmas.Bool.Decides.{Decides-eqb}
 
 pub returns : goal.returns
 returns c =
-    after_by c.as-bytes.result.now c.args.line.now _ (strip_prefix_is Decides-eqb c.args.line.now c.as-bytes.result.now _ c.strip-prefix.ensures.cases)
-    ∙ ap (λ ws. after ws c.args.line.now) c.as-bytes.ensures.value
+    after_by c.as_bytes.result.now c.args.line.now _ (strip_prefix_is Decides-eqb c.args.line.now c.as_bytes.result.now _ c.strip_prefix.ensures.cases)
+    ∙ ap (λ ws. after ws c.args.line.now) c.as_bytes.ensures.value

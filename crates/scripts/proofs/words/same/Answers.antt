@@ -4,4 +4,4 @@ use Rattle.scripts.proofs.words.same.Goals as goal
 use Rattle.std.proofs.lemmas.Bool.Decides.{Decides-eqb}
 
 pub returns : goal.returns
-returns c = let s = c.as-bytes.ensures.value in let d = slice_eq-Decides Decides-eqb _ _ _ c.eq.ensures in search (rules, bytes_eq-Decides)
+returns c = let s = c.as_bytes.ensures.value in let d = slice_eq-Decides Decides-eqb _ _ _ c.eq.ensures in search (rules, bytes_eq-Decides)

@@ -4,8 +4,8 @@ use Rattle.sheets.proofs.drawing.bar.Goals as goal
 
 pub loop-k-preserved : goal.loop-k-preserved
 loop-k-preserved c =
-    mark_more _ c.loop-k.k (string_bytes c.loop-k.text) _ (omega arith) (c.in-ok-push-str.ensures.bytes ∙ ap (λ m. string_bytes c.loop-k.text ++ m) c.mark-at.ensures)
+    mark_more _ c.loop-k.k (string_bytes c.loop-k.text) _ (omega arith) (c.in_ok-push_str.ensures.bytes ∙ ap (λ m. string_bytes c.loop-k.text ++ m) c.mark_at.ensures)
     ∙ c.loop-k.invariant
 
 pub returns : goal.returns
-returns c = c.in-ok-push-str-2.ensures.bytes ∙ ap (λ t. t ++ codes "]") (mark_ends _ _ _ _ (omega arith) c.loop-k.invariant)
+returns c = c.in_ok-push_str-2.ensures.bytes ∙ ap (λ t. t ++ codes "]") (mark_ends _ _ _ _ (omega arith) c.loop-k.invariant)

@@ -14,7 +14,7 @@ use Rattle.text.proofs.columns.place_of.Goals.{After-eq}
 tested : (c : After-eq) → c.eq.result ≡ bytes_eq c.args.name.now (get_or (pieces 44 (line_of c.args.text.now c.args.cuts.now.starts)) c.loop-place.place [])
 tested c =
     same_from_decides _ _ (slice_eq-Decides Decides-eqb _ _ _ c.eq.ensures) (bytes_eq-Decides _ _)
-    ∙ ap (bytes_eq c.args.name.now) (ap (λ p. p.bytes.now) c.piece.ensures ∙ c.value-in.ensures.bytes)
+    ∙ ap (bytes_eq c.args.name.now) (ap (λ p. p.bytes.now) c.piece.ensures ∙ c.value_in.ensures.bytes)
 
 pub returns-then-eq : goal.returns-then-eq
 returns-then-eq c = record {

@@ -2,42 +2,42 @@ use Rattle.std.proofs.Common.{refl, arith}
 use Rattle.text.proofs.Fives.{one_more, no_comma, no_end, five}
 use Rattle.text.proofs.cuts.cut.Goals as goal
 
-pub returns-in-err-first : goal.returns-in-err-first
-returns-in-err-first c = rw c.from-residual.ensures (no_comma c.args.text.now c.args.from 5 (λ e. omega arith) c.in-err-first.ensures)
+pub returns-in_err-first : goal.returns-in_err-first
+returns-in_err-first c = rw c.from-residual.ensures (no_comma c.args.text.now c.args.from 5 (λ e. omega arith) c.in_err-first.ensures)
 
-pub returns-in-err-second : goal.returns-in-err-second
-returns-in-err-second c =
-    rw c.from-residual-in-err-second.ensures
-    (one_more _ _ _ 4 c.in-ok-first.ensures
-    (no_comma _ _ 4 (λ e. omega arith) c.in-err-second.ensures))
+pub returns-in_err-second : goal.returns-in_err-second
+returns-in_err-second c =
+    rw c.from-residual-in_err-second.ensures
+    (one_more _ _ _ 4 c.in_ok-first.ensures
+    (no_comma _ _ 4 (λ e. omega arith) c.in_err-second.ensures))
 
-pub returns-in-err-third : goal.returns-in-err-third
-returns-in-err-third c =
-    rw c.from-residual-in-err-third.ensures
-    (one_more _ _ _ 4 c.in-ok-first.ensures
-    (one_more _ _ _ 3 c.in-ok-second.ensures
-    (no_comma _ _ 3 (λ e. omega arith) c.in-err-third.ensures)))
+pub returns-in_err-third : goal.returns-in_err-third
+returns-in_err-third c =
+    rw c.from-residual-in_err-third.ensures
+    (one_more _ _ _ 4 c.in_ok-first.ensures
+    (one_more _ _ _ 3 c.in_ok-second.ensures
+    (no_comma _ _ 3 (λ e. omega arith) c.in_err-third.ensures)))
 
-pub returns-in-err-fourth : goal.returns-in-err-fourth
-returns-in-err-fourth c =
-    rw c.from-residual-in-err-fourth.ensures
-    (one_more _ _ _ 4 c.in-ok-first.ensures
-    (one_more _ _ _ 3 c.in-ok-second.ensures
-    (one_more _ _ _ 2 c.in-ok-third.ensures
-    (no_comma _ _ 2 (λ e. omega arith) c.in-err-fourth.ensures))))
+pub returns-in_err-fourth : goal.returns-in_err-fourth
+returns-in_err-fourth c =
+    rw c.from-residual-in_err-fourth.ensures
+    (one_more _ _ _ 4 c.in_ok-first.ensures
+    (one_more _ _ _ 3 c.in_ok-second.ensures
+    (one_more _ _ _ 2 c.in_ok-third.ensures
+    (no_comma _ _ 2 (λ e. omega arith) c.in_err-fourth.ensures))))
 
-pub returns-in-err-end : goal.returns-in-err-end
-returns-in-err-end c =
-    rw c.from-residual-in-err-end.ensures
-    (one_more _ _ _ 4 c.in-ok-first.ensures
-    (one_more _ _ _ 3 c.in-ok-second.ensures
-    (one_more _ _ _ 2 c.in-ok-third.ensures
-    (one_more _ _ _ 1 c.in-ok-fourth.ensures
-    (no_end _ _ c.in-err-end.ensures)))))
+pub returns-in_err-end : goal.returns-in_err-end
+returns-in_err-end c =
+    rw c.from-residual-in_err-end.ensures
+    (one_more _ _ _ 4 c.in_ok-first.ensures
+    (one_more _ _ _ 3 c.in_ok-second.ensures
+    (one_more _ _ _ 2 c.in_ok-third.ensures
+    (one_more _ _ _ 1 c.in_ok-fourth.ensures
+    (no_end _ _ c.in_err-end.ensures)))))
 
 pub returns : goal.returns
 returns c = (
-  five c.args.text.now c.args.from c.in-ok-first.first c.in-ok-second.second c.in-ok-third.third c.in-ok-fourth.fourth c.in-ok-end.end
-      c.in-ok-first.ensures c.in-ok-second.ensures c.in-ok-third.ensures c.in-ok-fourth.ensures c.in-ok-end.ensures,
+  five c.args.text.now c.args.from c.in_ok-first.first c.in_ok-second.second c.in_ok-third.third c.in_ok-fourth.fourth c.in_ok-end.end
+      c.in_ok-first.ensures c.in_ok-second.ensures c.in_ok-third.ensures c.in_ok-fourth.ensures c.in_ok-end.ensures,
   refl,
 )

@@ -2,5 +2,5 @@ use Rattle.std.proofs.Common.{arith}
 use Rattle.best_fit.specs.Walk.{get_d_zeros}
 use Rattle.best_fit.proofs.heap.BestFit.new.Goals as goal
 
-pub invariant-of-result : goal.invariant-of-result
-invariant-of-result c = (omega arith, ((λ k h. get_d_zeros 512 k), tt))
+pub invariant_of-result : goal.invariant_of-result
+invariant_of-result c = (omega arith, ((λ k h. get_d_zeros 512 k), tt))

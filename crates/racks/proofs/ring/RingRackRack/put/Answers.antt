@@ -2,8 +2,8 @@ use Rattle.std.proofs.Common.{◌≡◌, length, arith, rules}
 use Rattle.racks.proofs.Rings.{ring_room, around_end, ring_returned}
 use Rattle.racks.proofs.ring.RingRackRack.put.Goals as goal
 
-pub invariant-of-self : goal.invariant-of-self
-invariant-of-self c =
+pub invariant_of-self : goal.invariant_of-self
+invariant_of-self c =
     let r = c.args.self.now in
     let long : length r.places ≡ 255 = search rules in
     let free = ring_room r.places r.out r.first r.count c.args.place r.sound c.if-not-self-place.false in

@@ -3,5 +3,5 @@ use Rattle.racks.specs.Accounted.{Accounted}
 use Rattle.racks.specs.Fresh.{fresh_accounted}
 use Rattle.racks.proofs.stack.StackRack.new.Goals as goal
 
-pub invariant-of-result : goal.invariant-of-result
-invariant-of-result c = (omega arith, (subst (λ (b : List ℕ). Accounted (record { back = b; out = replicate 256 false })) (sym c.fresh-places.ensures) fresh_accounted, tt))
+pub invariant_of-result : goal.invariant_of-result
+invariant_of-result c = (omega arith, (subst (λ (b : List ℕ). Accounted (record { back = b; out = replicate 256 false })) (sym c.fresh_places.ensures) fresh_accounted, tt))

@@ -6,8 +6,8 @@ use Rattle.racks.proofs.stack.StackRackRack.draw.Goals as goal
 pub returns-then-self-ge-PLACES : goal.returns-then-self-ge-PLACES
 returns-then-self-ge-PLACES c = let r = c.args.self.now in let long : length r.places ≡ 255 = search rules in let e = drop_all r.top r.places (omega arith) in search rules
 
-pub invariant-of-self : goal.invariant-of-self
-invariant-of-self c =
+pub invariant_of-self : goal.invariant_of-self
+invariant_of-self c =
     let r = c.args.self.now in
     let long : length r.places ≡ 255 = search rules in
     (omega arith, (top_drawn r.places r.out r.top (omega arith) r.sound, tt))
