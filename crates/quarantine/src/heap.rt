@@ -30,7 +30,7 @@ impl<H: Heap> Quarantine<H> {
 
     // Puts a block to wait; when the line is full, the longest waiting goes below first.
     fn wait(&mut self, start: u64)
-        ensures { quarantined (state self.new.below) (waiting_of self.new.waiting) ≡ joined rule start (waiting_of self.old.waiting) (state self.old.below) }
+        ensures { quarantined (H.state self.new.below) (waiting_of self.new.waiting) ≡ joined H.rule start (waiting_of self.old.waiting) (H.state self.old.below) }
     {
         if !self.waiting.is_full() {
             self.waiting.push(start);

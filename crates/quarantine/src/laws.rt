@@ -5,5 +5,5 @@ use heaps::heap::Heap;
 
 // From the first clear on, in every state that calls lead to: who waits, who lives, who goes below and when.
 pub fn quarantine_keeps_its_rules<H: Heap>()
-    ensures { QuarantineRules rule }
+    ensures { QuarantineRules H.rule }
 {}

@@ -8,7 +8,7 @@ use crate::rack::Rack;
 // Over every history of draws, puts and clears from a clear on, any rack keeps the points,
 // and its places out are those drawn and not put back since.
 pub fn every_history_keeps_the_points<R: Rack>()
-    ensures { EveryHistory rule }
+    ensures { EveryHistory R.rule }
 {}
 
 // After every history from a clear on, the stack rack draws the place that was put back last;

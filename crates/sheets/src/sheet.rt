@@ -23,7 +23,7 @@ pub struct Sheet {
 
 // The held size of the block that starts there, if one does and no block before it reaches so far.
 fn starts_at<H: Heap>(heap: &H, start: u64, from: u64) -> Option<u64>
-    ensures { result ≡ starts_at (rule.held (state heap.now)) start from }
+    ensures { result ≡ starts_at (H.rule.held (H.state heap.now)) start from }
 {
     if start < from {
         return None;
@@ -73,11 +73,11 @@ fn push_block(list: &mut Vec<Stretch>, from: u64, start: u64, held: u64) -> Resu
 
 impl Sheet {
     pub fn of<H: Heap>(memory: Global, heap: &H) -> Result<Sheet, AllocError>
-        ensures stretches { IfOk result (λ s. s.stretches.items ≡ stretches_of (rule.held (state heap.now))) }
-        ensures blocks { IfOk result (λ s. s.blocks ≡ blocks_in (stretches_of (rule.held (state heap.now)))) }
-        ensures held { IfOk result (λ s. s.held ≡ held_in (stretches_of (rule.held (state heap.now)))) }
+        ensures stretches { IfOk result (λ s. s.stretches.items ≡ stretches_of (H.rule.held (H.state heap.now))) }
+        ensures blocks { IfOk result (λ s. s.blocks ≡ blocks_in (stretches_of (H.rule.held (H.state heap.now)))) }
+        ensures held { IfOk result (λ s. s.held ≡ held_in (stretches_of (H.rule.held (H.state heap.now)))) }
         ensures free { IfOk result (λ s. s.free ≡ 4096 - s.held) }
-        ensures law { Shows (rule.held (state heap.now)) (stretches_of (rule.held (state heap.now))) }
+        ensures law { Shows (H.rule.held (H.state heap.now)) (stretches_of (H.rule.held (H.state heap.now))) }
     {
         let mut list = Vec::new(memory);
         let mut from = 0;

@@ -20,8 +20,8 @@ loop-position-init c = (refl, refl, λ k h. absurd (omega arith))
 pub returns-in_err-steps : goal.returns-in_err-steps
 returns-in_err-steps c =
     let ops = c.args.operations.now in
-    let p = err_from_is_err_and c.from-residual.result c.from-residual.ensures.1 in
-    let value : steps_in c.from-residual.result ≡ vetting ops =
+    let p = err_from_is_err_and c.from_residual.result c.from_residual.ensures.1 in
+    let value : steps_in c.from_residual.result ≡ vetting ops =
     ap steps_in p.1
     ∙ ap Err p.2
     ∙ halt (length ops) _ ops c.loop-position.position _ (omega arith) _ c.in_err-steps.ensures.value
@@ -51,7 +51,7 @@ loop-position-preserved c =
 pub invariant_of-result : goal.invariant_of-result
 invariant_of-result c =
     let inv = c.loop-position.invariant in
-    (inv.0, (omega arith, (omega arith, ((λ k h. inv.2 k (omega arith)), tt))))
+    record { full = inv.0; some = omega arith; few = omega arith; sound = λ k h. inv.2 k (omega arith) }
 
 pub returns : goal.returns
 returns c =

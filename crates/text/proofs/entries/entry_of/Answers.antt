@@ -16,7 +16,7 @@ pub returns-in_err-operation : goal.returns-in_err-operation
 returns-in_err-operation c =
     let five = c.in-Some.ensures in
     let starts = c.in-Some.cuts.starts in
-    let p = err_from_is_err_and c.from-residual.result c.from-residual.ensures.1 in
+    let p = err_from_is_err_and c.from_residual.result c.from_residual.ensures.1 in
     rw p.1
     (inl (
       get_or starts 5 0 - 1,

@@ -10,7 +10,7 @@ pub returns-in_err-d : goal.returns-in_err-d
 returns-in_err-d c =
     let known = ap operator_of (sym c.value_in.ensures.meaning) ∙ sym c.in_ok-code.ensures in
     let uses = c.row.ensures.uses in
-    let p = err_from_is_err_and c.from-residual-in_err-d.result c.from-residual-in_err-d.ensures.1 in
+    let p = err_from_is_err_and c.from_residual-in_err-d.result c.from_residual-in_err-d.ensures.1 in
     p.1 ∙ ap Err p.2
     ∙ sym (refused_d c.args.order c.args.line (pieces 44 (line_of c.args.text.now c.args.cuts.now.starts)) c.in_ok-code.code known _ (at_column register_of _ _ _ _ _ c.in_err-d.ensures (ap (λ u. u.d) uses) c.value_in-2.ensures.meaning))
 
@@ -18,7 +18,7 @@ pub returns-in_err-a : goal.returns-in_err-a
 returns-in_err-a c =
     let known = ap operator_of (sym c.value_in.ensures.meaning) ∙ sym c.in_ok-code.ensures in
     let uses = c.row.ensures.uses in
-    let p = err_from_is_err_and c.from-residual-in_err-a.result c.from-residual-in_err-a.ensures.1 in
+    let p = err_from_is_err_and c.from_residual-in_err-a.result c.from_residual-in_err-a.ensures.1 in
     p.1 ∙ ap Err p.2
     ∙ sym (refused_a c.args.order c.args.line (pieces 44 (line_of c.args.text.now c.args.cuts.now.starts)) c.in_ok-code.code known _ _
     (at_column register_of _ _ _ _ _ c.in_ok-d.ensures (ap (λ u. u.d) uses) c.value_in-2.ensures.meaning)
@@ -28,7 +28,7 @@ pub returns-in_err-b : goal.returns-in_err-b
 returns-in_err-b c =
     let known = ap operator_of (sym c.value_in.ensures.meaning) ∙ sym c.in_ok-code.ensures in
     let uses = c.row.ensures.uses in
-    let p = err_from_is_err_and c.from-residual-in_err-b.result c.from-residual-in_err-b.ensures.1 in
+    let p = err_from_is_err_and c.from_residual-in_err-b.result c.from_residual-in_err-b.ensures.1 in
     p.1 ∙ ap Err p.2
     ∙ sym (refused_b c.args.order c.args.line (pieces 44 (line_of c.args.text.now c.args.cuts.now.starts)) c.in_ok-code.code known _ _ _
     (at_column register_of _ _ _ _ _ c.in_ok-d.ensures (ap (λ u. u.d) uses) c.value_in-2.ensures.meaning)
@@ -39,7 +39,7 @@ pub returns-in_err-n : goal.returns-in_err-n
 returns-in_err-n c =
     let known = ap operator_of (sym c.value_in.ensures.meaning) ∙ sym c.in_ok-code.ensures in
     let uses = c.row.ensures.uses in
-    let p = err_from_is_err_and c.from-residual-in_err-n.result c.from-residual-in_err-n.ensures.1 in
+    let p = err_from_is_err_and c.from_residual-in_err-n.result c.from_residual-in_err-n.ensures.1 in
     p.1 ∙ ap Err p.2
     ∙ sym (refused_n c.args.order c.args.line (pieces 44 (line_of c.args.text.now c.args.cuts.now.starts)) c.in_ok-code.code known _ _ _ _
     (at_column register_of _ _ _ _ _ c.in_ok-d.ensures (ap (λ u. u.d) uses) c.value_in-2.ensures.meaning)

@@ -8,7 +8,7 @@ pub invariant_of-result : goal.invariant_of-result
 invariant_of-result c =
     let long : length c.fresh_places.result ≡ 255 = search rules in
     let e = around_whole c.fresh_places.result long ∙ c.fresh_places.ensures in
-    (omega arith, (omega arith, (subst (λ (b : List ℕ). Accounted (record { back = b; out = replicate 256 false })) (sym e) fresh_accounted, tt)))
+    record { within = omega arith; few = omega arith; sound = subst (λ (b : List ℕ). Accounted (record { back = b; out = replicate 256 false })) (sym e) fresh_accounted }
 
 pub returns : goal.returns
 returns c =

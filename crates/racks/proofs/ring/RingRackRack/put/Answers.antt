@@ -7,7 +7,7 @@ invariant_of-self c =
     let r = c.args.self.now in
     let long : length r.places ≡ 255 = search rules in
     let free = ring_room r.places r.out r.first r.count c.args.place r.sound c.if-not-self-place.false in
-    (omega arith, (omega arith, (ring_returned r.places r.out r.first r.count c.args.place long (omega arith) c.if-not-self-place.false r.sound, tt)))
+    record { within = omega arith; few = omega arith; sound = ring_returned r.places r.out r.first r.count c.args.place long (omega arith) c.if-not-self-place.false r.sound }
 
 pub returns : goal.returns
 returns c =

@@ -10,7 +10,7 @@ pub invariant_of-self : goal.invariant_of-self
 invariant_of-self c =
     let r = c.args.self.now in
     let long : length r.places ≡ 255 = search rules in
-    (omega arith, (top_drawn r.places r.out r.top (omega arith) r.sound, tt))
+    record { within = omega arith; sound = top_drawn r.places r.out r.top (omega arith) r.sound }
 
 pub returns : goal.returns
 returns c = let r = c.args.self.now in let long : length r.places ≡ 255 = search rules in let e = drop_more r.places r.top 0 (omega arith) in search rules

@@ -12,7 +12,7 @@ pub invariant_of-self : goal.invariant_of-self
 invariant_of-self c =
     let r = c.args.self.now in
     let long : length r.places ≡ 255 = search rules in
-    (omega arith, (top_returned r.places r.out r.top c.args.place long (omega arith) c.if-not-self-place.false r.sound, tt))
+    record { within = omega arith; sound = top_returned r.places r.out r.top c.args.place long (omega arith) c.if-not-self-place.false r.sound }
 
 pub returns : goal.returns
 returns c =

@@ -14,12 +14,12 @@ loop-cell-preserved g c =
 
 pub returns-in_err-end : goal.returns-in_err-end
 returns-in_err-end g c =
-    let p = err_from_is_err_and c.from-residual.result c.from-residual.ensures.1 in
+    let p = err_from_is_err_and c.from_residual.result c.from_residual.ensures.1 in
     rw p.1 record { stretches = tt; blocks = tt; held = tt; free = tt; law = stretches_show _ }
 
 pub returns-in_err-push_gap : goal.returns-in_err-push_gap
 returns-in_err-push_gap g c =
-    let p = err_from_is_err_and c.from-residual-in_err-push_gap.result c.from-residual-in_err-push_gap.ensures.1 in
+    let p = err_from_is_err_and c.from_residual-in_err-push_gap.result c.from_residual-in_err-push_gap.ensures.1 in
     rw p.1 record { stretches = tt; blocks = tt; held = tt; free = tt; law = stretches_show _ }
 
 pub returns : goal.returns
