@@ -103,120 +103,33 @@ const DAN: Uses = Uses {
 };
 
 impl Code {
+    #[rattlefmt::skip]
     pub fn row(self) -> Row
         ensures { Tells result (row self) }
     {
         match self {
-            Code::Stop => Row {
-                word: "stop",
-                uses: NONE,
-                extra: 0,
-            },
-            Code::Set => Row {
-                word: "set",
-                uses: DN,
-                extra: 0,
-            },
-            Code::Copy => Row {
-                word: "copy",
-                uses: DA,
-                extra: 0,
-            },
-            Code::Add => Row {
-                word: "add",
-                uses: DAB,
-                extra: 1,
-            },
-            Code::Sub => Row {
-                word: "sub",
-                uses: DAB,
-                extra: 0,
-            },
-            Code::Addi => Row {
-                word: "addi",
-                uses: DAN,
-                extra: 0,
-            },
-            Code::Mul => Row {
-                word: "mul",
-                uses: DAB,
-                extra: 0,
-            },
-            Code::Div => Row {
-                word: "div",
-                uses: DAB,
-                extra: 0,
-            },
-            Code::Less => Row {
-                word: "less",
-                uses: DAB,
-                extra: 0,
-            },
-            Code::Load => Row {
-                word: "load",
-                uses: DAN,
-                extra: 2,
-            },
-            Code::Store => Row {
-                word: "store",
-                uses: ABN,
-                extra: 2,
-            },
-            Code::Loadb => Row {
-                word: "loadb",
-                uses: DAN,
-                extra: 1,
-            },
-            Code::Storeb => Row {
-                word: "storeb",
-                uses: ABN,
-                extra: 1,
-            },
-            Code::Jump => Row {
-                word: "jump",
-                uses: N,
-                extra: 0,
-            },
-            Code::Jzero => Row {
-                word: "jzero",
-                uses: AN,
-                extra: 0,
-            },
-            Code::Call => Row {
-                word: "call",
-                uses: N,
-                extra: 4,
-            },
-            Code::Ret => Row {
-                word: "ret",
-                uses: NONE,
-                extra: 4,
-            },
-            Code::Frame => Row {
-                word: "frame",
-                uses: DN,
-                extra: 0,
-            },
-            Code::Global => Row {
-                word: "global",
-                uses: DN,
-                extra: 0,
-            },
-            Code::Grab => Row {
-                word: "grab",
-                uses: DA,
-                extra: 1,
-            },
-            Code::Release => Row {
-                word: "release",
-                uses: A,
-                extra: 1,
-            },
-            Code::Out => Row {
-                word: "out",
-                uses: A,
-                extra: 0,
-            },
+            Code::Stop => Row { word: "stop", uses: NONE, extra: 0 },
+            Code::Set => Row { word: "set", uses: DN, extra: 0 },
+            Code::Copy => Row { word: "copy", uses: DA, extra: 0 },
+            Code::Add => Row { word: "add", uses: DAB, extra: 1 },
+            Code::Sub => Row { word: "sub", uses: DAB, extra: 0 },
+            Code::Addi => Row { word: "addi", uses: DAN, extra: 0 },
+            Code::Mul => Row { word: "mul", uses: DAB, extra: 0 },
+            Code::Div => Row { word: "div", uses: DAB, extra: 0 },
+            Code::Less => Row { word: "less", uses: DAB, extra: 0 },
+            Code::Load => Row { word: "load", uses: DAN, extra: 2 },
+            Code::Store => Row { word: "store", uses: ABN, extra: 2 },
+            Code::Loadb => Row { word: "loadb", uses: DAN, extra: 1 },
+            Code::Storeb => Row { word: "storeb", uses: ABN, extra: 1 },
+            Code::Jump => Row { word: "jump", uses: N, extra: 0 },
+            Code::Jzero => Row { word: "jzero", uses: AN, extra: 0 },
+            Code::Call => Row { word: "call", uses: N, extra: 4 },
+            Code::Ret => Row { word: "ret", uses: NONE, extra: 4 },
+            Code::Frame => Row { word: "frame", uses: DN, extra: 0 },
+            Code::Global => Row { word: "global", uses: DN, extra: 0 },
+            Code::Grab => Row { word: "grab", uses: DA, extra: 1 },
+            Code::Release => Row { word: "release", uses: A, extra: 1 },
+            Code::Out => Row { word: "out", uses: A, extra: 0 },
         }
     }
 

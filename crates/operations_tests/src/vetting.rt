@@ -67,168 +67,45 @@ const CALL: Operation = Operation {
     line: 75,
 };
 
+#[rattlefmt::skip]
 const CASES: [Case; 33] = [
-    Case {
-        records: &[],
-        answer: Err((9, 0)),
-    },
-    Case {
-        records: &[STOP],
-        answer: Ok(1),
-    },
+    Case { records: &[], answer: Err((9, 0)) },
+    Case { records: &[STOP], answer: Ok(1) },
     // Only the target of a jump or call has to lie in the program.
-    Case {
-        records: &[SET, ADD, STOP],
-        answer: Ok(3),
-    },
-    Case {
-        records: &[STOP, JUMP, JZERO, CALL],
-        answer: Ok(4),
-    },
-    Case {
-        records: &[STOP, Operation { n: 1, ..JUMP }],
-        answer: Ok(2),
-    },
-    Case {
-        records: &[STOP, Operation { n: 1, ..JZERO }],
-        answer: Ok(2),
-    },
-    Case {
-        records: &[STOP, Operation { n: 1, ..CALL }],
-        answer: Ok(2),
-    },
-    Case {
-        records: &[STOP, Operation { n: 2, ..JUMP }],
-        answer: Err((10, 73)),
-    },
-    Case {
-        records: &[STOP, Operation { n: 2, ..JZERO }],
-        answer: Err((10, 74)),
-    },
-    Case {
-        records: &[STOP, Operation { n: 2, ..CALL }],
-        answer: Err((10, 75)),
-    },
-    Case {
-        records: &[Operation { n: -1, ..JUMP }],
-        answer: Err((10, 73)),
-    },
-    Case {
-        records: &[Operation { n: -1, ..JZERO }],
-        answer: Err((10, 74)),
-    },
-    Case {
-        records: &[Operation { n: -1, ..CALL }],
-        answer: Err((10, 75)),
-    },
-    Case {
-        records: &[Operation {
-            n: 9223372036854775807,
-            ..JUMP
-        }],
-        answer: Err((10, 73)),
-    },
-    Case {
-        records: &[Operation {
-            n: -9223372036854775808,
-            ..JUMP
-        }],
-        answer: Err((10, 73)),
-    },
+    Case { records: &[SET, ADD, STOP], answer: Ok(3) },
+    Case { records: &[STOP, JUMP, JZERO, CALL], answer: Ok(4) },
+    Case { records: &[STOP, Operation { n: 1, ..JUMP }], answer: Ok(2) },
+    Case { records: &[STOP, Operation { n: 1, ..JZERO }], answer: Ok(2) },
+    Case { records: &[STOP, Operation { n: 1, ..CALL }], answer: Ok(2) },
+    Case { records: &[STOP, Operation { n: 2, ..JUMP }], answer: Err((10, 73)) },
+    Case { records: &[STOP, Operation { n: 2, ..JZERO }], answer: Err((10, 74)) },
+    Case { records: &[STOP, Operation { n: 2, ..CALL }], answer: Err((10, 75)) },
+    Case { records: &[Operation { n: -1, ..JUMP }], answer: Err((10, 73)) },
+    Case { records: &[Operation { n: -1, ..JZERO }], answer: Err((10, 74)) },
+    Case { records: &[Operation { n: -1, ..CALL }], answer: Err((10, 75)) },
+    Case { records: &[Operation { n: 9223372036854775807, ..JUMP }], answer: Err((10, 73)) },
+    Case { records: &[Operation { n: -9223372036854775808, ..JUMP }], answer: Err((10, 73)) },
     // 2 to the 32nd would be 0 if only the lower half counted.
-    Case {
-        records: &[Operation {
-            n: 4294967296,
-            ..JUMP
-        }],
-        answer: Err((10, 73)),
-    },
+    Case { records: &[Operation { n: 4294967296, ..JUMP }], answer: Err((10, 73)) },
     // Unknown codes, registers above 15, and unused fields that are not 0.
-    Case {
-        records: &[Operation { code: 22, ..STOP }],
-        answer: Err((11, 70)),
-    },
-    Case {
-        records: &[Operation { code: 255, ..STOP }],
-        answer: Err((11, 70)),
-    },
-    Case {
-        records: &[Operation { d: 16, ..ADD }],
-        answer: Err((11, 72)),
-    },
-    Case {
-        records: &[Operation { a: 16, ..ADD }],
-        answer: Err((11, 72)),
-    },
-    Case {
-        records: &[Operation { b: 16, ..ADD }],
-        answer: Err((11, 72)),
-    },
-    Case {
-        records: &[Operation { d: 255, ..ADD }],
-        answer: Err((11, 72)),
-    },
-    Case {
-        records: &[Operation { d: 1, ..STOP }],
-        answer: Err((11, 70)),
-    },
-    Case {
-        records: &[Operation { a: 1, ..STOP }],
-        answer: Err((11, 70)),
-    },
-    Case {
-        records: &[Operation { b: 1, ..STOP }],
-        answer: Err((11, 70)),
-    },
-    Case {
-        records: &[Operation { n: 1, ..STOP }],
-        answer: Err((11, 70)),
-    },
-    Case {
-        records: &[Operation { n: -1, ..ADD }],
-        answer: Err((11, 72)),
-    },
-    Case {
-        records: &[UNREAD],
-        answer: Err((11, 5)),
-    },
+    Case { records: &[Operation { code: 22, ..STOP }], answer: Err((11, 70)) },
+    Case { records: &[Operation { code: 255, ..STOP }], answer: Err((11, 70)) },
+    Case { records: &[Operation { d: 16, ..ADD }], answer: Err((11, 72)) },
+    Case { records: &[Operation { a: 16, ..ADD }], answer: Err((11, 72)) },
+    Case { records: &[Operation { b: 16, ..ADD }], answer: Err((11, 72)) },
+    Case { records: &[Operation { d: 255, ..ADD }], answer: Err((11, 72)) },
+    Case { records: &[Operation { d: 1, ..STOP }], answer: Err((11, 70)) },
+    Case { records: &[Operation { a: 1, ..STOP }], answer: Err((11, 70)) },
+    Case { records: &[Operation { b: 1, ..STOP }], answer: Err((11, 70)) },
+    Case { records: &[Operation { n: 1, ..STOP }], answer: Err((11, 70)) },
+    Case { records: &[Operation { n: -1, ..ADD }], answer: Err((11, 72)) },
+    Case { records: &[UNREAD], answer: Err((11, 5)) },
     // 11 comes before 10 in one record, and any fault of an earlier record before those of a later one.
-    Case {
-        records: &[Operation { d: 1, n: 9, ..JUMP }],
-        answer: Err((11, 73)),
-    },
-    Case {
-        records: &[Operation {
-            a: 16,
-            n: -1,
-            ..JZERO
-        }],
-        answer: Err((11, 74)),
-    },
-    Case {
-        records: &[
-            STOP,
-            Operation { n: 9, ..CALL },
-            Operation { code: 22, ..STOP },
-        ],
-        answer: Err((10, 75)),
-    },
-    Case {
-        records: &[
-            STOP,
-            Operation { code: 22, ..STOP },
-            Operation { n: 9, ..CALL },
-        ],
-        answer: Err((11, 70)),
-    },
-    Case {
-        records: &[Operation {
-            line: 0,
-            code: 22,
-            ..STOP
-        }],
-        answer: Err((11, 0)),
-    },
+    Case { records: &[Operation { d: 1, n: 9, ..JUMP }], answer: Err((11, 73)) },
+    Case { records: &[Operation { a: 16, n: -1, ..JZERO }], answer: Err((11, 74)) },
+    Case { records: &[STOP, Operation { n: 9, ..CALL }, Operation { code: 22, ..STOP }], answer: Err((10, 75)) },
+    Case { records: &[STOP, Operation { code: 22, ..STOP }, Operation { n: 9, ..CALL }], answer: Err((11, 70)) },
+    Case { records: &[Operation { line: 0, code: 22, ..STOP }], answer: Err((11, 0)) },
 ];
 
 // A program has the steps of its records and none after them.

@@ -26,17 +26,22 @@ pub fn written(answer: Answer) -> usize {
     }
 }
 
-// The records in front have the lines 2, 3 and so on, and the others were left alone.
-pub fn only_written(rt: &impl Abort, list: &[Operation], count: usize) -> Result<(), Fail> {
+// The records in front have the lines 2, 3 and so on, and the others were left alone. The note of a failure names the row.
+pub fn only_written(
+    rt: &impl Abort,
+    list: &[Operation],
+    count: usize,
+    row: usize,
+) -> Result<(), Fail> {
     for i in 0..list.len() {
         if i < count {
             assert_eq!(rt;
                 list[i].line as usize,
                 i.saturating_add(2),
-                "the line of a record"
+                "row {row}, the line of a record"
             );
         } else {
-            assert_eq!(rt; list[i], UNREAD, "record {i}");
+            assert_eq!(rt; list[i], UNREAD, "row {row}, record {i}");
         }
     }
     Ok(())
@@ -48,7 +53,7 @@ pub fn all_read(rt: &impl Abort, rows: &[Row]) -> Result<(), Fail> {
         let mut list = [UNREAD; 4];
         let answer = answer_of(rows[i].text, &mut list);
         assert_eq!(rt; answer, rows[i].answer, "row {i}");
-        only_written(rt, &list, written(answer)).note(format_args!("row {i}"))?;
+        only_written(rt, &list, written(answer), i)?;
     }
     Ok(())
 }
