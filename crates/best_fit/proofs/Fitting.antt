@@ -1,12 +1,12 @@
 -- Every block that the best-fit heap grants is the best fit. Assumes nothing.
-use Rattle.std.proofs.Common.{◌≡◌, ℕ, ◌+◌, ◌*◌, ◌<◌, ◌≤◌, false, List, Some, None, sym, refl, ◌∙◌, subst, ⊎_elim, arith}
+use Rattle.std.proofs.Common.{◌≡◌, ℕ, ◌*◌, ◌<◌, ◌≤◌, false, List, Some, None, sym, refl, subst, ⊎_elim, arith}
 use Rattle.std.proofs.lemmas.Bool.Decides.{nat_tests}
 use Rattle.std.proofs.lemmas.Bool.{cases_lt}
 use Rattle.heaps.specs.Rule.{Taken, Block}
 use Rattle.heaps.proofs.Keeping.{reached_sound}
 use Rattle.heaps.proofs.Laying.{some_none}
-use Rattle.best_fit.specs.Rule.{before, cells_for, best_fit_held, best_fit_take, best_fit_rule}
-use Rattle.best_fit.specs.Fits.{IsGap, rounded, BestFit, FitsBest, AlwaysBest}
+use Rattle.best_fit.specs.Rule.{before, cells_for, best_fit_held, best_fit_rule}
+use Rattle.best_fit.specs.Fits.{IsGap, rounded, BestFit, AlwaysBest}
 use Rattle.best_fit.specs.declared.gap.Gap.{Gap}
 use Rattle.best_fit.specs.Keeping.{Cells, chosen, usable, all_covered, finds, Took, no, yes, took, kept}
 

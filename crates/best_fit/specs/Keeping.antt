@@ -1,5 +1,5 @@
 -- The best-fit heap keeps the points of a heap. Assumes nothing.
-use Rattle.std.specs.Prelude.{◌≡◌, ℕ, ◌+◌, ◌-◌, ◌*◌, ◌/◌, ◌%◌, ◌<◌, ◌≤◌, Bool, true, false, cond, ◌&&◌, ltb, ◌⊎◌, List, length, set, replicate, is_some, Some, None, Option, ◌==◌, nat_le, nat_lt, slice_index_or, slice_set, refl}
+use Rattle.std.specs.Prelude.{◌≡◌, ℕ, ◌+◌, ◌*◌, ◌/◌, ◌%◌, ◌<◌, ◌≤◌, Bool, true, false, cond, ◌&&◌, ltb, ◌⊎◌, List, length, is_some, Some, None, ◌==◌, nat_le, nat_lt, slice_index_or, slice_set, refl}
 use Rattle.std.proofs.Common.{sym, ap, subst, ◌∙◌, inl, inr, ⊎_elim, arith, length-set, get_or-set_same, get_or-set_other}
 use Rattle.std.proofs.lemmas.Bool.Decides.{nat_tests}
 use Rattle.std.proofs.lemmas.Bool.{cases_lt}
@@ -8,7 +8,7 @@ use Rattle.heaps.specs.Rule.{Taken, Block}
 use Rattle.heaps.specs.Points.{Points, Laid, Fit, Free, Grants, Takes, plus, minus}
 use Rattle.heaps.proofs.Keeping.{Kept, points_by}
 use Rattle.heaps.proofs.Laying.{some_none, laid_empty, laid_plus, laid_minus, vacant}
-use Rattle.best_fit.specs.Rule.{before, no_gap, best_of, cells_for, starts, best_fit_held, refused, placed, best_fit_take, given, best_fit_give, cleared, best_fit_rule}
+use Rattle.best_fit.specs.Rule.{no_gap, best_of, cells_for, starts, best_fit_held, refused, best_fit_take, given, best_fit_give, cleared, best_fit_rule}
 use Rattle.best_fit.specs.declared.gap.Gap.{Gap}
 use Rattle.best_fit.specs.Walk.{get_d_zeros}
 use Rattle.best_fit.specs.Seen.{Seen}

@@ -2,7 +2,7 @@
 use Rattle.std.proofs.Common.{◌≡◌, ℕ, Bool, true, false, cond, eqb, List, [], ◌∷◌, is_some, Some, None, Option, sym, refl, ap, ◌∙◌, arith}
 use Rattle.std.proofs.lemmas.Bool.Decides.{nat_tests}
 use Rattle.heaps.specs.Rule.{HeapRule, Block}
-use Rattle.heaps.specs.Points.{Points, Keeps, Reached, cleared, after_take, after_give, empty, plus, minus}
+use Rattle.heaps.specs.Points.{Points, Reached, cleared, after_take, after_give, empty, plus, minus}
 use Rattle.heaps.specs.Histories.{Call, take, give, clear, Event, taken, given, cleared as emptied, living, step, event, after, events, EveryHistory}
 
 -- equal sets give equal sets

@@ -8,9 +8,9 @@ use Rattle.racks.specs.Rule.{RackRule}
 use Rattle.racks.specs.Points.{RackPoints, Leaves, after_draw}
 use Rattle.model.specs.Parts.{put}
 use Rattle.model.specs.declared.sidecar.Sidecar.{Sidecar}
-use Rattle.model.specs.Machine.{side, machine, covers, grant}
+use Rattle.model.specs.Machine.{side, covers}
 use Rattle.model.specs.Grants.{Outline, Kind, block, frame, is_block, is_frame, living_block, living_frame, count, bit}
-use Rattle.model.specs.History.{Grant, outline, book, born, blocks, room}
+use Rattle.model.specs.History.{Grant, born}
 use Rattle.model.proofs.Sheeting.{Both, both_map}
 use Rattle.model.proofs.Views.{upd, upd_same, upd_other, get_set, length_put, window_out, window_new}
 use Rattle.model.proofs.Counts.{count_suc, count_ext, count_upd}

@@ -1,12 +1,12 @@
 -- A start ends every living frame of a book, and nothing else. Assumes nothing.
-use Rattle.std.proofs.Common.{◌≡◌, ℕ, zero, suc, ◌-◌, ◌<◌, ◌≤◌, Bool, true, false, cond, ◌⊎◌, length, set, sym, refl, ap, ◌∙◌, inl, inr, arith}
+use Rattle.std.proofs.Common.{◌≡◌, ℕ, zero, suc, ◌<◌, ◌≤◌, Bool, true, false, cond, ◌⊎◌, length, set, sym, refl, ap, ◌∙◌, inl, inr, arith}
 use Rattle.std.proofs.lemmas.List.{length-set, get_or_past}
 use Rattle.std.proofs.lemmas.Bool.{and_parts, and_from, cases_eq, cases_lt, true≢false}
 use Rattle.heaps.specs.Rule.{HeapRule}
 use Rattle.model.specs.Sheet.{State, close, leaves, depth}
-use Rattle.model.specs.Grants.{frame, is_frame, Outline, over, living_frame, count, bit}
+use Rattle.model.specs.Grants.{is_frame, Outline, over, living_frame, count, bit}
 use Rattle.model.specs.History.{Book, Grant, nth, outline, book, none, ended, change, youngest}
-use Rattle.model.specs.Lives.{Lives, without_frames, lives}
+use Rattle.model.specs.Lives.{Lives, without_frames}
 use Rattle.model.proofs.Views.{upd, upd_same, upd_other, get_set}
 use Rattle.model.proofs.Counts.{count_ext, count_upd}
 use Rattle.model.proofs.Counts.{latest_passes, count_zero}

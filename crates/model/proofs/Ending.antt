@@ -5,9 +5,8 @@ use Rattle.heaps.specs.Rule.{HeapRule}
 use Rattle.heaps.specs.Points.{Apart}
 use Rattle.racks.specs.Rule.{RackRule}
 use Rattle.model.specs.declared.sidecar.Sidecar.{Sidecar}
-use Rattle.model.specs.Machine.{side, machine}
+use Rattle.model.specs.Machine.{side}
 use Rattle.model.specs.Grants.{over, Outline, Kind, globals, block, frame, is_block, is_frame, count}
-use Rattle.model.specs.History.{book}
 use Rattle.model.proofs.Views.{upd, upd_same, upd_other, upd_map, get_set}
 use Rattle.model.proofs.Counts.{count_ext, count_upd}
 use Rattle.model.proofs.Relation.{World, Zone, Fits, Live, Ties}

@@ -9,11 +9,11 @@ use Rattle.operations.specs.declared.step.Step.{Step}
 use Rattle.heaps.specs.Points.{Points, cleared}
 use Rattle.racks.specs.Rule.{RackRule}
 use Rattle.racks.specs.Points.{RackPoints}
-use Rattle.model.specs.Sheet.{either, Did, State, Common, Named, wrap, word, tag, keep, got, grabbed, sheet, act, close}
+use Rattle.model.specs.Sheet.{either, Did, Common, Named, wrap, word, tag, got, grabbed, sheet, act, close}
 use Rattle.model.specs.Parts.{value, bytes}
 use Rattle.model.specs.declared.sidecar.Sidecar.{Sidecar}
-use Rattle.model.specs.Machine.{machine, made, faults}
-use Rattle.model.specs.Grants.{block, Outline, is_frame, over, living_frame}
+use Rattle.model.specs.Machine.{machine, made}
+use Rattle.model.specs.Grants.{Outline, is_frame, over, living_frame}
 use Rattle.model.specs.History.{nth, outline, book, opened}
 use Rattle.model.specs.Driving.{HostCall, start}
 use Rattle.model.specs.Agreement.{idle, descent, machine_after}
@@ -25,7 +25,6 @@ use Rattle.model.proofs.Sheeting.{Both, rows_get, SameBlock, acts_like, closes_l
 use Rattle.model.proofs.Driving.{Matches}
 use Rattle.model.proofs.Driven.{drives, trail_push}
 use Rattle.model.proofs.Relation.{World, Alike, Rel}
-use Rattle.model.proofs.Access.{passed}
 use Rattle.model.proofs.Whole.{steps, begin, same_descent, agrees}
 use Rattle.model.proofs.Tracking.{Tracks, back_map, whole_push, tracks_at, tracks_same, trails_track}
 use Rattle.model.proofs.Recording.{Tells, act_tells, close_tells}

@@ -1,5 +1,5 @@
 -- What a book tells of its grants after a step is what the trail shows of their lives. Assumes nothing.
-use Rattle.std.proofs.Common.{◌≡◌, ℕ, suc, ◌+◌, ◌-◌, ◌*◌, ◌%◌, Bool, true, false, cond, ◌&&◌, eqb, ltb, List, [], ◌∷◌, ◌++◌, length, Some, None, Option, sym, refl, ap, subst, arith, w64, of_z}
+use Rattle.std.proofs.Common.{◌≡◌, ℕ, suc, ◌+◌, ◌*◌, ◌%◌, Bool, true, false, cond, ◌&&◌, eqb, ltb, List, [], ◌∷◌, ◌++◌, length, Some, None, Option, sym, refl, ap, subst, arith, w64, of_z}
 use Rattle.std.proofs.lemmas.List.{length_push}
 use Rattle.std.proofs.lemmas.Bool.{lt-ltb, le-ltb}
 use Rattle.faults.specs.declared.cause.Cause.{Cause}
@@ -15,7 +15,7 @@ use Rattle.model.specs.History.{Book, Grant, nth, outline, book, born, ended, ch
 use Rattle.model.specs.History
 use Rattle.model.specs.Trail.{passing}
 use Rattle.model.specs.Sights.{Seen, stores}
-use Rattle.model.specs.Lives.{Lives, with_birth, with_end, open_frames, youngest_frame, block_born, ended_by, changed, lives}
+use Rattle.model.specs.Lives.{Lives, with_birth, with_end, open_frames, youngest_frame, block_born, ended_by, changed}
 use Rattle.model.proofs.Access.{passed, written}
 use Rattle.model.proofs.Telling.{listed}
 use Rattle.model.proofs.Living.{Same, youngest_same, same_born, same_end, same_write, youngest_lives}

@@ -1,10 +1,10 @@
 -- Lives that a book's grants have, and how they change with one birth, one end, and a write. Assumes nothing.
-use Rattle.std.proofs.Common.{◌≡◌, ℕ, suc, ◌+◌, ◌-◌, ◌<◌, true, false, cond, eqb, ◌⊎◌, length, sym, refl, ap, ◌∙◌, inl, inr, arith}
+use Rattle.std.proofs.Common.{◌≡◌, ℕ, suc, ◌+◌, ◌<◌, true, false, cond, eqb, ◌⊎◌, length, sym, refl, ap, ◌∙◌, inl, inr, arith}
 use Rattle.std.proofs.lemmas.List.{length-set, length_push}
 use Rattle.std.proofs.lemmas.Bool.{eq-eqb, ne_eqb, cases_eq}
-use Rattle.model.specs.Grants.{frame, Outline, over, living_frame, latest, count, bit}
-use Rattle.model.specs.History.{Book, Grant, nth, outline, book, none, ended, enters, change, youngest}
-use Rattle.model.specs.Lives.{Lives, with_birth, with_end, open_frames, youngest_frame, lives}
+use Rattle.model.specs.Grants.{Outline, over, living_frame, latest, count, bit}
+use Rattle.model.specs.History.{Book, Grant, nth, outline, none, ended, enters, change, youngest}
+use Rattle.model.specs.Lives.{Lives, with_birth, with_end, open_frames, youngest_frame}
 use Rattle.model.proofs.Views.{upd, upd_same, upd_other, get_set, get_push}
 use Rattle.model.proofs.Counts.{count_suc, count_ext, count_upd}
 use Rattle.model.proofs.Counts.{latest_ext, latest_passes}

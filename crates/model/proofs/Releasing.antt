@@ -8,7 +8,7 @@ use Rattle.racks.specs.Rule.{RackRule}
 use Rattle.racks.specs.Points.{RackPoints, after_put}
 use Rattle.model.specs.declared.sidecar.Sidecar.{Sidecar}
 use Rattle.model.specs.Machine.{Core, side, machine, refuses}
-use Rattle.model.specs.Grants.{over, Outline, block, frame, is_block, is_frame, living_block, living_frame, count, latest}
+use Rattle.model.specs.Grants.{over, Outline, block, is_block, is_frame, living_block, living_frame, count, latest}
 use Rattle.model.specs.History.{Book, Grant, nth, outline, book, change, ended, youngest}
 use Rattle.model.proofs.Views.{upd, upd_same, upd_other}
 use Rattle.model.proofs.Counts.{count_ext, count_upd, latest_is}

@@ -1,11 +1,11 @@
 -- Two backings that are alike step by step perform every operation alike. Assumes nothing.
 -- W is a ghost, what ties the tags of one side to those of the other; Alike says when two tags are tied, and Rel when what lies behind is, at a depth of open frames.
-use Rattle.std.proofs.Common.{◌≡◌, ℕ, zero, suc, ◌+◌, ◌-◌, ◌<◌, Bool, true, false, ltb, List, [], ◌∷◌, length, get_or, set, Some, None, Option, sym, refl, subst, w64, of_z}
+use Rattle.std.proofs.Common.{◌≡◌, ℕ, zero, suc, ◌+◌, ◌<◌, Bool, true, false, ltb, List, [], ◌∷◌, length, get_or, set, Some, None, Option, sym, refl, subst, w64, of_z}
 use Rattle.faults.specs.declared.cause.Cause.{Cause}
 use Rattle.std.proofs.lemmas.Bool.{ltb-true}
 use Rattle.operations.specs.declared.code.Code.{Code}
 use Rattle.operations.specs.declared.step.Step.{Step}
-use Rattle.model.specs.Sheet.{Common, State, Named, Grabbed, Backing, wrap, did, word, tag, depth, name, frames, either, unless, access, got, released, returned, framed, called, divided, grabbed, sheet, act, leaves, close}
+use Rattle.model.specs.Sheet.{Common, State, Named, Grabbed, Backing, wrap, did, word, tag, name, either, unless, access, got, released, returned, framed, called, divided, grabbed, sheet, act, leaves, close}
 use Rattle.operations.specs.declared.code.Code.TheVariants.{Stop, Set, Copy, Add, Sub, Addi, Mul, Div, Less, Load, Store, Loadb, Storeb, Jump, Jzero, Call, Ret, Frame, Global, Grab, Release, Out}
 use Rattle.model.specs.declared.way.Way.TheVariants.{Next}
 use Rattle.model.proofs.Driving.{Matches}

@@ -4,10 +4,9 @@ use Rattle.std.proofs.lemmas.List.{length-set, length-replicate, get_or-replicat
 use Rattle.std.proofs.lemmas.Bool.{and_parts, eq-eqb, ne_eqb, cases_eq, cases_lt, true≢false}
 use Rattle.heaps.specs.Rule.{HeapRule}
 use Rattle.heaps.specs.Points.{Reached}
-use Rattle.model.specs.Sheet.{State}
-use Rattle.model.specs.Parts.{put, bytes}
-use Rattle.model.specs.Grants.{Kind, block, is_block, living_block, latest}
-use Rattle.model.specs.History.{Book, Grant, outline, book, none, born, ended, blocks}
+use Rattle.model.specs.Parts.{put}
+use Rattle.model.specs.Grants.{Kind, is_block, living_block, latest}
+use Rattle.model.specs.History.{Book, Grant, outline, none, born, ended}
 use Rattle.model.specs.Sights.{Wrote, newest, adds}
 use Rattle.model.proofs.Views.{upd, upd_same, upd_other, length_put}
 use Rattle.model.proofs.Access.{Passed, written}

@@ -1,5 +1,5 @@
 -- The machine agrees with the book over every history. Assumes nothing.
-use Rattle.std.proofs.Common.{◌≡◌, ℕ, zero, suc, ◌+◌, ◌-◌, ◌<◌, Bool, true, false, List, get_or, replicate, Some, None, Option, sym, refl, ap, ◌∙◌, arith}
+use Rattle.std.proofs.Common.{◌≡◌, ℕ, zero, suc, ◌+◌, ◌-◌, ◌<◌, Bool, false, List, get_or, replicate, Some, None, Option, sym, refl, ap, ◌∙◌, arith}
 use Rattle.std.proofs.lemmas.Bool.{true≢false}
 use Rattle.std.proofs.lemmas.List.{length-replicate, get_or-replicate}
 use Rattle.heaps.specs.Rule.{HeapRule}
@@ -9,9 +9,9 @@ use Rattle.racks.specs.Points.{RackPoints, cleared as rack-cleared}
 use Rattle.model.specs.Sheet.{State, act, close}
 use Rattle.model.specs.declared.sidecar.Sidecar.{Sidecar}
 use Rattle.model.specs.Machine.{Core, side, machine, made}
-use Rattle.model.specs.Grants.{Outline, globals, frame, living_block, living_frame}
+use Rattle.model.specs.Grants.{Outline, globals, living_block, living_frame}
 use Rattle.model.specs.History.{Book, outline, book, opened, born}
-use Rattle.model.specs.Driving.{HostCall, answers}
+use Rattle.model.specs.Driving.{HostCall}
 use Rattle.model.specs.Agreement.{idle, descent, book_after, machine_after, Agree}
 use Rattle.model.proofs.Driving.{Paired, answers_level, leads_level}
 use Rattle.model.proofs.Sheeting.{Both, Rows, rows_get, Steps, Agrees, acts_like, closes_like}

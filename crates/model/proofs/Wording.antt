@@ -6,23 +6,21 @@ use Rattle.heaps.specs.Rule.{Block, HeapRule}
 use Rattle.heaps.specs.Points.{Points, Apart}
 use Rattle.racks.specs.Rule.{RackRule}
 use Rattle.racks.specs.Points.{RackPoints}
-use Rattle.model.specs.Sheet.{State, Named, tag, name, keep, access, unless, released}
-use Rattle.model.specs.Parts.{value, part, bytes}
+use Rattle.model.specs.Sheet.{Named, name, keep, access, unless, released}
+use Rattle.model.specs.Parts.{value, part}
 use Rattle.model.specs.declared.sidecar.Sidecar.{Sidecar}
 use Rattle.model.specs.Machine.{Core, machine, faults, within}
 use Rattle.model.specs.Machine
-use Rattle.model.specs.Grants.{block, Outline, is_block, living_block, count}
-use Rattle.model.specs.History.{Book, nth, outline, book, blocks, taken}
-use Rattle.model.specs.Driving.{start}
-use Rattle.model.specs.Trail.{passing, at, back}
+use Rattle.model.specs.Grants.{Outline, is_block, living_block, count}
+use Rattle.model.specs.History.{Book, nth, outline, book, blocks}
+use Rattle.model.specs.Trail.{passing}
 use Rattle.model.specs.Sights.{Wrote, newest}
-use Rattle.model.specs.Lives.{Lives, lives}
-use Rattle.model.specs.Promise.{Iff, load, store, loadb, Reaches, Endable, Clear, living_blocks, last_stored}
+use Rattle.model.specs.Lives.{Lives}
+use Rattle.model.specs.Promise.{Iff, Reaches, Endable, Clear, living_blocks, last_stored}
 use Rattle.model.proofs.Sheeting.{Both}
 use Rattle.model.proofs.Access.{passed}
 use Rattle.model.proofs.Recording.{Tells}
 use Rattle.model.proofs.Living.{Same}
-use Rattle.model.proofs.Refusing.{refuses}
 use Rattle.model.proofs.Counts.{count_ext}
 use Rattle.model.proofs.Allies.{BState}
 use Rattle.model.proofs.OneKind.{block_is}

@@ -1,7 +1,7 @@
 -- The machine behind its registers: memory, shadow memory, lock places, keys, a heap and a rack. Assumes nothing.
 -- Memory is 8,192 bytes: the globals from 0, the heap from 1,024, the frames from 5,120, 48 bytes each. Shadow memory has a sidecar for each word.
 -- Lock place 0 is the globals', 1 to 255 are the rack's, and 256 + k is that of the frame at depth k.
-use Rattle.std.specs.Prelude.{ℕ, zero, ◌+◌, ◌-◌, ◌*◌, ◌/◌, ◌%◌, Bool, true, false, ◌&&◌, List, [], ◌∷◌, replicate, Some, None, Option, ◌==◌, nat_le, nat_lt, slice_index, slice_index_or, slice_set}
+use Rattle.std.specs.Prelude.{ℕ, ◌+◌, ◌-◌, ◌*◌, ◌/◌, ◌%◌, Bool, true, false, ◌&&◌, List, [], ◌∷◌, replicate, Some, None, Option, ◌==◌, nat_le, nat_lt, slice_index, slice_index_or, slice_set}
 use Rattle.faults.specs.declared.cause.Cause.{Cause}
 use Rattle.faults.specs.declared.cause.Cause.TheVariants.{Ended, OutOfBounds, Uneven, NotFromHeap}
 use Rattle.model.specs.Sheet.{Backing, Grabbed, State}

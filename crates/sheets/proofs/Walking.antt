@@ -1,9 +1,8 @@
 -- The walk over a heap's addresses finds its stretches. Assumes nothing.
-use Rattle.std.proofs.Common.{◌≡◌, ℕ, zero, suc, ◌+◌, ◌-◌, ◌*◌, ◌<◌, ◌≤◌, min, Bool, true, false, cond, ltb, List, [], ◌∷◌, ◌++◌, Some, None, Option, sym, refl, ap, ◌∙◌, append_assoc, append-nil, add_assoc, zero-add, arith}
-use Rattle.std.proofs.lemmas.Bool.{cond-true, cond-false, ltb-true, ltb-false}
+use Rattle.std.proofs.Common.{◌≡◌, ℕ, suc, ◌+◌, ◌-◌, ◌*◌, ◌<◌, ◌≤◌, Bool, true, false, cond, ltb, List, [], ◌∷◌, ◌++◌, Some, None, Option, sym, refl, ap, ◌∙◌, append_assoc, add_assoc, zero-add, arith}
 use Rattle.std.proofs.lemmas.Bool.Decides.{nat_tests}
 use Rattle.sheets.specs.declared.stretch.Stretch.{Stretch}
-use Rattle.sheets.specs.Sheets.{starts_at, gap_to, size_at, found_at, end_after, stretches_from, stretches_of, Tiles, blocks_in, held_in}
+use Rattle.sheets.specs.Sheets.{starts_at, gap_to, size_at, found_at, end_after, stretches_from, stretches_of, blocks_in, held_in}
 
 -- the counts of two lists together
 blocks_append : (xs ys : List Stretch) → blocks_in (xs ++ ys) ≡ blocks_in xs + blocks_in ys

@@ -1,7 +1,7 @@
 -- Over every history the slot heap grants slots in turn. Assumes nothing.
-use Rattle.std.proofs.Common.{◌≡◌, ℕ, ◌+◌, ◌*◌, ◌/◌, ◌%◌, ◌<◌, ◌≤◌, Bool, true, false, List, [], ◌∷◌, get_or, Some, None, Option, sym, refl, ap, ◌∙◌, subst, inl, inr, arith}
+use Rattle.std.proofs.Common.{◌≡◌, ℕ, ◌+◌, ◌*◌, ◌/◌, ◌%◌, ◌<◌, ◌≤◌, Bool, true, false, List, [], ◌∷◌, Some, None, sym, refl, ap, ◌∙◌, subst, inr, arith}
 use Rattle.heaps.specs.Rule.{Taken, Block}
-use Rattle.heaps.specs.Histories.{Call, take, give, clear, Event, taken, given, cleared, step, event, after, events}
+use Rattle.heaps.specs.Histories.{Call, take, give, clear, Event, taken, step, event, after, events}
 use Rattle.heaps.proofs.Histories.{reached}
 use Rattle.heaps.specs.Points.{cleared as first-clear}
 use Rattle.heaps.proofs.Keeping.{reached_sound}

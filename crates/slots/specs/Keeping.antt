@@ -1,11 +1,11 @@
 -- The slot heap keeps the points of a heap. Assumes nothing.
-use Rattle.std.specs.Prelude.{◌≡◌, ℕ, ◌+◌, ◌-◌, ◌*◌, ◌/◌, ◌%◌, ◌<◌, ◌≤◌, Bool, true, false, cond, ◌&&◌, ◌⊎◌, List, length, get_or, set, replicate, is_some, Some, None, Option, ◌==◌, ◌≢◌, nat_le, slice_index_or, slice_set, refl}
+use Rattle.std.specs.Prelude.{◌≡◌, ℕ, ◌+◌, ◌*◌, ◌/◌, ◌%◌, ◌<◌, ◌≤◌, Bool, true, false, cond, ◌&&◌, ◌⊎◌, List, length, get_or, replicate, is_some, Some, None, Option, ◌==◌, ◌≢◌, nat_le, slice_index_or, slice_set, refl}
 use Rattle.std.proofs.Common.{sym, subst, ◌∙◌, inl, inr, ⊎_elim, arith, length-set, get_or-set_same, get_or-set_other}
 use Rattle.std.proofs.lemmas.List.{get_or_past, get_or-replicate}
 use Rattle.std.proofs.lemmas.Bool.{cases_lt}
 use Rattle.std.proofs.lemmas.Bool.Decides.{nat_tests}
 use Rattle.heaps.specs.Rule.{Taken, Block}
-use Rattle.heaps.specs.Points.{Points, Fit, Apart, Free, Grants, Takes, Gives, minus}
+use Rattle.heaps.specs.Points.{Points, Fit, Apart, Free, Grants, Takes, minus}
 use Rattle.heaps.proofs.Keeping.{Kept, points_by}
 use Rattle.heaps.proofs.Laying.{some_none}
 use Rattle.slots.specs.Rule.{Slotted, slotted, first_free, begins, slots_held, granted, slots_take, given, slots_give, cleared, slots_rule}

@@ -1,5 +1,5 @@
 -- The search for a free slot: its turns, what it finds, and what it has passed. Assumes nothing.
-use Rattle.std.specs.Prelude.{◌≡◌, ℕ, zero, suc, ◌+◌, ◌-◌, ◌%◌, ◌<◌, ◌≤◌, Bool, true, false, cond, List, [], ◌∷◌, length, get_or, Some, None, Option, slice_index_or, refl}
+use Rattle.std.specs.Prelude.{◌≡◌, ℕ, zero, suc, ◌+◌, ◌-◌, ◌%◌, ◌<◌, Bool, true, false, cond, List, get_or, Some, None, slice_index_or, refl}
 use Rattle.std.proofs.Common.{sym, subst, arith}
 use Rattle.heaps.proofs.Laying.{some_none}
 use Rattle.slots.specs.Rule.{first_free}

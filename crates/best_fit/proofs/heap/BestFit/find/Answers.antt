@@ -1,4 +1,4 @@
-use Rattle.std.proofs.Common.{◌≡◌, ◌+◌, ◌<◌, length, get_or, drop, sym, ap, ◌∙◌, arith, rules}
+use Rattle.std.proofs.Common.{◌+◌, get_or, drop, sym, ap, ◌∙◌, arith}
 use Rattle.best_fit.specs.Rule.{best_of}
 use Rattle.best_fit.specs.declared.gap.Gap.{Gap}
 use Rattle.best_fit.specs.Walk.{at_free, at_block, at_end}
