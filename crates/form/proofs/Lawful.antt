@@ -1,6 +1,6 @@
 -- One line: the reader takes it exactly where it is in the form. Assumes nothing.
 use Rattle.std.proofs.Common.{◌≡◌, ℕ, ◌+◌, ◌<◌, min, Bool, true, false, cond, eqb, ltb, leb, List, [], length, get_or, Some, None, Ok, Err, Option, Result, sym, refl, ap, ◌∙◌, subst, arith}
-use Rattle.std.specs.List.{AllByRecursion as All}
+use Rattle.std.specs.List.{AllByRecursion}
 use Rattle.std.proofs.lemmas.Bool.{ltb-false, leb-false, eqb-true, le-ltb, eq-eqb}
 use Rattle.faults.specs.declared.cause.Cause.{Cause}
 use Rattle.faults.specs.declared.cause.Cause.TheVariants.{ColumnNames}
@@ -35,7 +35,7 @@ or_told None c x h = let z : ◌≡◌ {A = ℕ} 0 1 = cc in absurd (omega arith
 or_told (Some y) c x h = let e : y ≡ x = cc in ap Some e
 
 -- five values that say an operation
-row_told : (o : Order) (line : ℕ) (vs : List (List ℕ)) (op : Operation) → length vs ≡ 5 → All Clean vs → operation o line vs ≡ Ok op → Row o line vs op
+row_told : (o : Order) (line : ℕ) (vs : List (List ℕ)) (op : Operation) → length vs ≡ 5 → AllByRecursion Clean vs → operation o line vs ≡ Ok op → Row o line vs op
 row_told o line vs op five clean h =
     let p = chain_told _ _ op h in
     let q = chain_told _ _ op p.2 in

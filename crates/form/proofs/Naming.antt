@@ -1,6 +1,6 @@
 -- The first line: each name has one place, and the reader finds it. Assumes nothing.
 use Rattle.std.proofs.Common.{◌≡◌, ℕ, zero, suc, ◌+◌, ◌<◌, ◌≤◌, Bool, true, false, cond, List, [], ◌∷◌, length, get_or, Some, None, codes, Option, sym, refl, ap, ◌∙◌, subst, ⊎_elim, arith}
-use Rattle.std.specs.List.{AllByRecursion as All}
+use Rattle.std.specs.List.{AllByRecursion}
 use Rattle.std.specs.Str.{bytes_eq}
 use Rattle.std.proofs.lemmas.Slice.Eq.{bytes_eq-Decides}
 use Rattle.std.proofs.lemmas.List.{get_or_past}
@@ -118,7 +118,7 @@ then_told None f y h = let z : ◌≡◌ {A = ℕ} 0 1 = cc in absurd (omega ari
 then_told (Some x) f y h = (x, refl, h)
 
 -- the first line, when the reader takes it
-pub heads_told : (vs : List (List ℕ)) (o : Order) → length vs ≡ 5 → All Clean vs → order vs ≡ Some o → Heads o vs
+pub heads_told : (vs : List (List ℕ)) (o : Order) → length vs ≡ 5 → AllByRecursion Clean vs → order vs ≡ Some o → Heads o vs
 heads_told vs o five clean h =
     let p = then_told _ _ o h in
     let q = then_told _ _ o p.2 in

@@ -1,6 +1,6 @@
 -- The whole text: its refusal is that of the first check that fails, on the first line that fails one. Assumes nothing.
 use Rattle.std.proofs.Common.{◌≡◌, ℕ, ◌+◌, ◌<◌, ◌≤◌, true, false, ◌||◌, eqb, ltb, ◌⊎◌, List, [], ◌∷◌, ◌++◌, length, get_or, drop, Some, None, Ok, Err, Option, Result, sym, refl, ap, ◌∙◌, subst, inl, inr, ⊎_elim, arith, below_more}
-use Rattle.std.specs.List.{AllByRecursion as All}
+use Rattle.std.specs.List.{AllByRecursion}
 use Rattle.std.proofs.lemmas.List.{length-drop, length_push, drop_more}
 use Rattle.std.proofs.lemmas.Bool.{cond-true, cond-false, cases_Bool, eqb-true, eqb-false, ltb-true, ltb-false, ne_eqb, or_cases, or_parts}
 use Rattle.faults.specs.declared.cause.Cause.{Cause}
@@ -103,7 +103,7 @@ refused_head text room f sized l ls e some (Err c) is h =
 refused_head text room f sized l ls e some (Ok o) is h =
     let end : HasEnd text 0 = omega (arith, ap length e) in
     let line : line_at text 0 ≡ l = ap (λ ps. get_or ps 0 []) e in
-    let lacks : Lacks 10 l = (subst (λ ps. All (Lacks 10) ps) e (pieces_lack 10 text)).0 in
+    let lacks : Lacks 10 l = (subst (λ ps. AllByRecursion (Lacks 10) ps) e (pieces_lack 10 text)).0 in
     let none = ap (λ x. first (head_checks x)) line ∙ sym (cause_heading l) ∙ ap cause_of is in
     let heads : Heads o (pieces 44 (line_at text 0)) = subst (λ x. Heads o (pieces 44 x)) (sym line) (heading_told l o lacks is).1 in
     inr (refused_on text room sized o (end, none, heads) ls [] f (ap (drop 1) e) (λ k lt. absurd (omega arith)) h)

@@ -1,6 +1,6 @@
 -- The whole text: reading succeeds exactly on texts that spell operations, and yields those. Assumes nothing.
 use Rattle.std.proofs.Common.{◌≡◌, ℕ, ◌+◌, ◌<◌, ◌≤◌, min, true, false, ◌||◌, eqb, ltb, List, [], ◌∷◌, ◌++◌, map, length, Ok, Err, Result, sym, refl, ap, ◌∙◌, subst, ⊎_elim, append_assoc, append-nil, arith}
-use Rattle.std.specs.List.{AllByRecursion as All}
+use Rattle.std.specs.List.{AllByRecursion}
 use Rattle.std.proofs.lemmas.List.{length-append, length_push}
 use Rattle.std.proofs.lemmas.Bool.{cond-true, cond-false, cases_Bool, ne_eqb, ltb-false, le-ltb, or_parts, or_from}
 use Rattle.faults.specs.declared.cause.Cause.{Cause}
@@ -28,7 +28,7 @@ pub record Told (o : Order) (room : ℕ) (done : List Operation) (ls : List (Lis
   pub all : ops ≡ done ++ more
   pub text_is : glued 10 ls ≡ ended (map parted rows)
   pub says : Rows o (length done + 2) rows more
-  pub short : All Short (map parted rows)
+  pub short : AllByRecursion Short (map parted rows)
   pub few : length ops ≤ min 512 room
 
 told_none : (o : Order) (room : ℕ) (done ops : List Operation) (ls : List (List ℕ)) → length done ≤ min 512 room → glued 10 ls ≡ [] → finished done ≡ finished ops → Told o room done ls ops
@@ -67,13 +67,13 @@ told_last o room done ops [] few h = told_none o room done ops ([] ∷ []) few r
 told_last o room done ops (b ∷ l) few h = absurd (never done ops LineEnd (length done + 2) (sym (onward_last o room done (b ∷ l) (omega arith)) ∙ h))
 
 -- lines that are read to the end
-told : (o : Order) (room : ℕ) (ls : List (List ℕ)) (done ops : List Operation) → All (Lacks 10) ls → length done ≤ min 512 room → onward o room done ls ≡ finished ops → Told o room done ls ops
+told : (o : Order) (room : ℕ) (ls : List (List ℕ)) (done ops : List Operation) → AllByRecursion (Lacks 10) ls → length done ≤ min 512 room → onward o room done ls ≡ finished ops → Told o room done ls ops
 told o room [] done ops lacks few h = told_none o room done ops [] few refl h
 told o room (l ∷ []) done ops lacks few h = told_last o room done ops l few h
 told o room (l ∷ m ∷ ls) done ops lacks few h =
     told_entry o room done ops l (m ∷ ls) lacks.0 (omega arith) (λ op few'. told o room (m ∷ ls) (done ++ op ∷ []) ops lacks.1 few') (entry o room (length done) l) refl h
 
-spelled_by : (text : List ℕ) (room : ℕ) (ops : List Operation) (l : List ℕ) (ls : List (List ℕ)) → length text ≤ 60000 → text ≡ glued 10 (l ∷ ls) → All (Lacks 10) (l ∷ ls) → 1 ≤ length ls
+spelled_by : (text : List ℕ) (room : ℕ) (ops : List Operation) (l : List ℕ) (ls : List (List ℕ)) → length text ≤ 60000 → text ≡ glued 10 (l ∷ ls) → AllByRecursion (Lacks 10) (l ∷ ls) → 1 ≤ length ls
     → (r : Result Order Cause) → heading l ≡ r → headed room ls r ≡ finished ops → Spells text ops × (length ops ≤ min 512 room)
 spelled_by text room ops l ls size is lacks some (Err c) e h = absurd (never [] ops c 1 h)
 spelled_by text room ops l [] size is lacks some (Ok o) e h = absurd (omega arith)
@@ -99,7 +99,7 @@ spelled_start : (text : List ℕ) (room : ℕ) (ops : List Operation) → length
 spelled_start text room ops size [] e h = absurd (never [] ops LineEnd 1 h)
 spelled_start text room ops size (l ∷ []) e h = absurd (never [] ops LineEnd 1 h)
 spelled_start text room ops size (l ∷ m ∷ ls) e h =
-    spelled_by text room ops l (m ∷ ls) size (sym (glued_pieces 10 text) ∙ ap (glued 10) e) (subst (λ ps. All (Lacks 10) ps) e (pieces_lack 10 text)) (omega arith) (heading l) refl
+    spelled_by text room ops l (m ∷ ls) size (sym (glued_pieces 10 text) ∙ ap (glued 10) e) (subst (λ ps. AllByRecursion (Lacks 10) ps) e (pieces_lack 10 text)) (omega arith) (heading l) refl
     (sym (cond-false _ (stopped [] LineEnd 1) (headed room (m ∷ ls) (heading l)) (ne_eqb (length (m ∷ ls)) 0 (λ z. omega arith))) ∙ h)
 
 -- what is read to its end is spelled by the text
@@ -113,7 +113,7 @@ spelled text room ops h =
     (cases_Bool (eqb (length text) 0 || ltb 60000 (length text)))
 
 read_rows : (o : Order) (room : ℕ) (rows : List (List (List ℕ))) (more done : List Operation)
-    → Rows o (length done + 2) rows more → All Short (map parted rows) → length done + length more ≤ min 512 room → onward o room done (map parted rows ++ [] ∷ []) ≡ finished (done ++ more)
+    → Rows o (length done + 2) rows more → AllByRecursion Short (map parted rows) → length done + length more ≤ min 512 room → onward o room done (map parted rows ++ [] ∷ []) ≡ finished (done ++ more)
 read_rows o room [] [] done says short few = ap finished (sym (append-nil done))
 read_rows o room [] (op ∷ more) done says short few = absurd says
 read_rows o room (vs ∷ rows) [] done says short few = absurd says
@@ -125,7 +125,7 @@ read_rows o room (vs ∷ rows) (op ∷ more) done says short few =
     ∙ read_rows o room rows more (done ++ op ∷ []) (subst (λ k. Rows o k rows more) next says.1) short.1 (omega (arith, length_push done op))
     ∙ ap finished (append_assoc done (op ∷ []) more)
 
-rows_lack : (o : Order) (line : ℕ) (rows : List (List (List ℕ))) (ops : List Operation) → Rows o line rows ops → All (Lacks 10) (map parted rows)
+rows_lack : (o : Order) (line : ℕ) (rows : List (List (List ℕ))) (ops : List Operation) → Rows o line rows ops → AllByRecursion (Lacks 10) (map parted rows)
 rows_lack o line [] ops says = tt
 rows_lack o line (vs ∷ rows) [] says = absurd says
 rows_lack o line (vs ∷ rows) (op ∷ ops) says = (parted_lacks vs says.0.clean, rows_lack o (line + 1) rows ops says.1)

@@ -2,7 +2,7 @@
 use Rattle.std.specs.Prelude.{◌≡◌, ℕ, ◌+◌, ◌^◌, ◌<◌, ◌≤◌, Bool, true, false, List, [], ◌∷◌, ◌++◌, map, length, get_or, ℤ, pos, codes, ◌≢◌, slice_index_or}
 use Rattle.std.specs.Int.Signed.{mag}
 use Rattle.std.specs.Fmt.{signed_decimal}
-use Rattle.std.specs.List.{AllByRecursion as All}
+use Rattle.std.specs.List.{AllByRecursion}
 use Rattle.operations.specs.declared.code.Code.{Code}
 use Rattle.operations.specs.declared.operation.Operation.{Operation}
 use Rattle.operations.specs.Table.{row, number_of}
@@ -25,7 +25,7 @@ ended (l ∷ ls) = l ++ 10 ∷ ended ls
 
 -- bytes of which none is b
 abbrev pub Lacks : ℕ → List ℕ → Type 0
-Lacks b bs = All (λ x. x ≢ b) bs
+Lacks b bs = AllByRecursion (λ x. x ≢ b) bs
 
 -- a value holds neither a comma nor a line end
 abbrev pub Clean : List ℕ → Type 0
@@ -38,7 +38,7 @@ Once vs w k = (slice_index_or vs k [] ≡ w) × ((i : ℕ) → slice_index_or vs
 -- the values of the first line: the names of the columns, each once
 pub record Heads (o : Order) (vs : List (List ℕ)) : Type 0 where
   pub five : length vs ≡ 5
-  pub clean : All Clean vs
+  pub clean : AllByRecursion Clean vs
   pub op : Once vs (codes "op") o.op
   pub d : Once vs (codes "d") o.d
   pub a : Once vs (codes "a") o.a
@@ -58,7 +58,7 @@ Register false v r = (v ≡ []) × (r ≡ 0)
 -- the values of a later line: an operation's word, and in each other column what the operation uses there
 pub record Row (o : Order) (line : ℕ) (vs : List (List ℕ)) (op : Operation) : Type 0 where
   pub five : length vs ≡ 5
-  pub clean : All Clean vs
+  pub clean : AllByRecursion Clean vs
   pub code : Code
   pub number : op.code ≡ number_of code
   pub word : get_or vs o.op [] ≡ (row code).word
@@ -86,6 +86,6 @@ pub record Spells (text : List ℕ) (ops : List Operation) : Type 0 where
   pub text_is : text ≡ ended (parted names ∷ map parted rows)
   pub heads : Heads order names
   pub says : Rows order 2 rows ops
-  pub short : All Short (parted names ∷ map parted rows)
+  pub short : AllByRecursion Short (parted names ∷ map parted rows)
   pub size : length text ≤ 60000
   pub few : length ops ≤ 512

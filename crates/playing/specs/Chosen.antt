@@ -1,7 +1,7 @@
 -- The heap or rack that a name stands for, as new. Assumes nothing.
 use Rattle.std.specs.Prelude.{◌≡◌, []}
 use Rattle.best_fit.specs.declared.heap.BestFit.{BestFit}
-use Rattle.best_fit.specs.Rule as bestFit
+use Rattle.best_fit.specs.Rule as best_fit
 use Rattle.slots.specs.declared.heap.Slots.{Slots}
 use Rattle.slots.specs.Rule as slots
 use Rattle.quarantine.specs.declared.heap.Quarantine.{Quarantine}
@@ -15,7 +15,7 @@ use Rattle.choices.specs.declared.heap.HeapChoice.TheVariants.{First, Second}
 use Rattle.choices.specs.declared.rack.RackChoice.{RackChoice}
 use Rattle.choices.specs.declared.rack.RackChoice.TheVariants.{First as FirstRack, Second as SecondRack}
 use Rattle.scripts.specs.declared.names.DirectName.{DirectName}
-use Rattle.scripts.specs.declared.names.DirectName.TheVariants.{BestFit as named-best-fit, Slots as named-slots}
+use Rattle.scripts.specs.declared.names.DirectName.TheVariants.{BestFit as NamedBestFit, Slots as NamedSlots}
 use Rattle.scripts.specs.declared.names.HeapName.{HeapName}
 use Rattle.scripts.specs.declared.names.HeapName.TheVariants.{Alone, Quarantined, TwiceQuarantined}
 use Rattle.scripts.specs.declared.names.RackName.{RackName}
@@ -26,10 +26,10 @@ Direct = HeapChoice BestFit Slots
 
 -- a direct heap of the name, without a block
 abbrev pub NewDirect : DirectName → Direct → Type 0
-NewDirect named-best-fit (First b) = b.cells ≡ bestFit.cleared
-NewDirect named-best-fit (Second s) = ⊥
-NewDirect named-slots (First b) = ⊥
-NewDirect named-slots (Second s) = slots.slotted s.taken s.next ≡ slots.cleared
+NewDirect NamedBestFit (First b) = b.cells ≡ best_fit.cleared
+NewDirect NamedBestFit (Second s) = ⊥
+NewDirect NamedSlots (First b) = ⊥
+NewDirect NamedSlots (Second s) = slots.slotted s.taken s.next ≡ slots.cleared
 
 -- a heap of the name: below as many quarantines as it says, in which nothing waits
 abbrev pub NewHeap : HeapName → HeapChoice Direct (HeapChoice (Quarantine Direct) (Quarantine (Quarantine Direct))) → Type 0

@@ -5,7 +5,7 @@ use Rattle.faults.specs.declared.cause.Cause.TheVariants.{BadEntry}
 use Rattle.operations.specs.declared.step.Step.{Step}
 use Rattle.operations.specs.Records.{plain}
 use Rattle.best_fit.specs.Rule.{best_fit_rule, cleared}
-use Rattle.slots.specs.Rule.{slots_rule, cleared as clearedSlots}
+use Rattle.slots.specs.Rule.{slots_rule, cleared as cleared_slots}
 use Rattle.quarantine.specs.Rule.{quarantine_rule, quarantined}
 use Rattle.racks.specs.Row.{stack_rule, ring_rule, fresh_row}
 use Rattle.model.specs.declared.sidecar.Sidecar.{Sidecar}
@@ -63,7 +63,7 @@ abbrev pub on_ring : ℕ → List Exchange → List (Register Sidecar) → Row
 on_ring top xs rs = record { heap = best_fit_rule; rack = ring_rule; heap_before = cleared; rack_before = fresh_row; ceiling = top; exchanges = xs; registers = rs }
 
 abbrev pub on_slots : ℕ → List Exchange → List (Register Sidecar) → Row
-on_slots top xs rs = record { heap = slots_rule; rack = stack_rule; heap_before = clearedSlots; rack_before = fresh_row; ceiling = top; exchanges = xs; registers = rs }
+on_slots top xs rs = record { heap = slots_rule; rack = stack_rule; heap_before = cleared_slots; rack_before = fresh_row; ceiling = top; exchanges = xs; registers = rs }
 
 abbrev pub on_quarantine : ℕ → List Exchange → List (Register Sidecar) → Row
 on_quarantine top xs rs = record { heap = quarantine_rule best_fit_rule; rack = stack_rule; heap_before = quarantined cleared []; rack_before = fresh_row; ceiling = top; exchanges = xs; registers = rs }
