@@ -10,7 +10,7 @@ use Rattle.heaps.proofs.Keeping.{Kept, points_by}
 use Rattle.heaps.proofs.Laying.{some_none, laid_empty, laid_plus, laid_minus, vacant}
 use Rattle.best_fit.specs.Rule.{no_gap, best_of, cells_for, starts, best_fit_held, refused, best_fit_take, given, best_fit_give, cleared, best_fit_rule}
 use Rattle.best_fit.specs.declared.gap.Gap.{Gap}
-use Rattle.best_fit.specs.Walk.{get_d_zeros}
+use Rattle.best_fit.specs.Walk.{get_or_zeros}
 use Rattle.best_fit.specs.Seen.{Seen}
 use Rattle.best_fit.specs.Choosing.{Usable, Covered, found, covered}
 
@@ -144,7 +144,7 @@ give_sound s x h = record {
 }
 
 empties : (x : ℕ) → best_fit_held cleared x ≡ None
-empties x = let e = get_d_zeros 512 (x / 8) in grind (arith, nat_tests)
+empties x = let e = get_or_zeros 512 (x / 8) in grind (arith, nat_tests)
 
 pub kept : Kept best_fit_rule Cells
 kept = record {

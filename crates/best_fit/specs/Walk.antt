@@ -5,10 +5,10 @@ use Rattle.std.proofs.lemmas.List.{drop_more, drop-drop, get_or-drop}
 use Rattle.best_fit.specs.Rule.{best_of, better}
 use Rattle.best_fit.specs.declared.gap.Gap.{Gap}
 
-pub get_d_zeros : (n i : ℕ) → ◌≡◌ {A = ℕ} (slice_index (replicate n 0) i) 0
-get_d_zeros zero i = refl
-get_d_zeros (suc n) zero = refl
-get_d_zeros (suc n) (suc i) = get_d_zeros n i
+pub get_or_zeros : (n i : ℕ) → ◌≡◌ {A = ℕ} (slice_index (replicate n 0) i) 0
+get_or_zeros zero i = refl
+get_or_zeros (suc n) zero = refl
+get_or_zeros (suc n) (suc i) = get_or_zeros n i
 
 -- the cells inside a block are passed over
 inside : (need : ℕ) (best : Gap) (low at inner : ℕ) (cs : List ℕ) → best_of need best low at inner cs ≡ best_of need best low (at + inner) 0 (drop inner cs)

@@ -1,5 +1,5 @@
 -- The form of a module's text: when a text spells a list of operations. Assumes nothing.
-use Rattle.std.specs.Prelude.{◌≡◌, ℕ, ◌+◌, ◌^◌, ◌<◌, ◌≤◌, Bool, true, false, List, [], ◌∷◌, ◌++◌, map, length, get_or, ℤ, pos, codes, ◌≢◌, slice_index_or}
+use Rattle.std.specs.Prelude.{◌≡◌, ℕ, ◌+◌, ◌^◌, ◌<◌, ◌≤◌, Bool, true, false, List, [], ◌∷◌, ◌++◌, map, length, ℤ, pos, codes, ◌≢◌, slice_index_or}
 use Rattle.std.specs.Int.Signed.{mag}
 use Rattle.std.specs.Fmt.{signed_decimal}
 use Rattle.std.specs.List.{AllByRecursion}
@@ -61,7 +61,7 @@ pub record Row (o : Order) (line : ℕ) (vs : List (List ℕ)) (op : Operation) 
   pub clean : AllByRecursion Clean vs
   pub code : Code
   pub number : op.code ≡ number_of code
-  pub word : get_or vs o.op [] ≡ (row code).word
+  pub word : slice_index_or vs o.op [] ≡ (row code).word
   pub d : Register (row code).uses.d (slice_index_or vs o.d []) op.d
   pub a : Register (row code).uses.a (slice_index_or vs o.a []) op.a
   pub b : Register (row code).uses.b (slice_index_or vs o.b []) op.b

@@ -1,6 +1,6 @@
 -- Start, run and press, said once for any player. Assumes nothing.
 -- A player is whatever can act (perform a step at a position) and close all its frames: the machine, or the history book.
-use Rattle.std.specs.Prelude.{ℕ, zero, suc, ◌+◌, Bool, true, false, List, [], ◌∷◌, length, get_or, Some, None, Option, nat_lt, slice_index_or}
+use Rattle.std.specs.Prelude.{ℕ, zero, suc, ◌+◌, Bool, true, false, List, [], ◌∷◌, length, Some, None, Option, nat_lt, slice_index_or}
 use Rattle.faults.specs.declared.cause.Cause.{Cause}
 use Rattle.faults.specs.declared.cause.Cause.TheVariants.{OffProgram, NotGoing, NotForPress, BadPress, BadEntry}
 use Rattle.faults.specs.Faults.{fault_at, whole_fault}
@@ -91,7 +91,7 @@ module _ {M : Type 0} (act : ℕ → Step → M → Did M) (close : M → M) whe
   abbrev pub runs : ℕ → List Step → ℕ → ℕ → ℕ → M → Turn M
   runs zero os c n e m = turn (Ran n e Spent) c Going m
   runs (suc k) os c n e m =
-      tried (nat_lt c (length os)) (slice_index_or os c stop) c n e m (λ c' m'. runs k os c' (n + 1) (e + extra (get_or os c stop).code) m')
+      tried (nat_lt c (length os)) (slice_index_or os c stop) c n e m (λ c' m'. runs k os c' (n + 1) (e + extra (slice_index_or os c stop).code) m')
 
   -- a start at an entry inside the program closes all frames
   abbrev pub begun : Bool → ℕ → Driven M → Turn M

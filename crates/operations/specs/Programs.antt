@@ -1,5 +1,5 @@
 -- A vetted program by its steps, and the law of vetting. Assumes nothing.
-use Rattle.std.specs.Prelude.{◌≡◌, ℕ, ◌<◌, ◌≤◌, Bool, true, false, ◌⊎◌, List, map, length, get_or, take, ℤ, pos, Some, None, Ok, Err, Option, Result, slice_index_or}
+use Rattle.std.specs.Prelude.{◌≡◌, ℕ, ◌<◌, ◌≤◌, Bool, true, false, ◌⊎◌, List, map, length, take, ℤ, pos, Some, None, Ok, Err, Option, Result, slice_index_or}
 use Rattle.faults.specs.declared.cause.Cause.TheVariants.{NoOperation, NoRoom, BadRecord, BadTarget}
 use Rattle.faults.specs.declared.fault.Fault.{Fault}
 use Rattle.faults.specs.Faults.{fault_at, whole_fault}
@@ -60,8 +60,8 @@ pub record Unfit (ops : List Operation) (f : Fault) : Type 0 where
   pub here : at < length ops
   pub earlier : (k : ℕ) (d : Operation) → k < at → Fit (length ops) (slice_index_or ops k d)
   pub fails : (d : Operation) →
-      ((((c : Code) → Orderly (slice_index_or ops at d) c → ⊥) × (f ≡ fault_at BadRecord (get_or ops at d).line))
-      ⊎ ((c : Code) × Orderly (slice_index_or ops at d) c × (Within (length ops) (slice_index_or ops at d) c → ⊥) × (f ≡ fault_at BadTarget (get_or ops at d).line)))
+      ((((c : Code) → Orderly (slice_index_or ops at d) c → ⊥) × (f ≡ fault_at BadRecord (slice_index_or ops at d).line))
+      ⊎ ((c : Code) × Orderly (slice_index_or ops at d) c × (Within (length ops) (slice_index_or ops at d) c → ⊥) × (f ≡ fault_at BadTarget (slice_index_or ops at d).line)))
 
 -- the law of vetting: records that make a program are its steps; else the first check that fails is told
 abbrev pub Vetted : List Operation → Result (List Step) Fault → Type 0

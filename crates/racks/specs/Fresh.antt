@@ -16,17 +16,17 @@ unfolding last_places
 once_last zero h = refl
 once_last (suc k) h = let r = is_in_last k (255 - k) (omega arith) in let o = once_last k (omega arith) in grind (arith, nat_tests)
 
-pub get_d_falses : (n i : ℕ) → slice_index_or (replicate n false) i false ≡ false
-get_d_falses zero i = refl
-get_d_falses (suc n) zero = refl
-get_d_falses (suc n) (suc i) = get_d_falses n i
+pub get_or_falses : (n i : ℕ) → slice_index_or (replicate n false) i false ≡ false
+get_or_falses zero i = refl
+get_or_falses (suc n) zero = refl
+get_or_falses (suc n) (suc i) = get_or_falses n i
 
 pub fresh_accounted : Accounted fresh_row
 fresh_accounted = (
   refl,
   once_last 255 (omega arith),
   λ x i. let r = is_in_last 255 x (omega arith) in (grind (arith, nat_tests), grind (arith, nat_tests)),
-  λ x. let r = is_in_last 255 x (omega arith) in let f = get_d_falses 256 x in grind (arith, nat_tests),
+  λ x. let r = is_in_last 255 x (omega arith) in let f = get_or_falses 256 x in grind (arith, nat_tests),
 )
 
 length_last : (k : ℕ) → length (last_places k) ≡ k
@@ -34,12 +34,12 @@ unfolding last_places
 length_last zero = refl
 length_last (suc k) = ap suc (length_last k)
 
-get_d_last : (k i : ℕ) → k ≤ 255 → i < k → slice_index (last_places k) i ≡ 256 - k + i
+get_or_last : (k i : ℕ) → k ≤ 255 → i < k → slice_index (last_places k) i ≡ 256 - k + i
 unfolding last_places
-get_d_last zero i h lt = absurd (omega arith)
-get_d_last (suc k) zero h lt = omega arith
-get_d_last (suc k) (suc i) h lt = let r = get_d_last k i (omega arith) (omega arith) in omega arith
+get_or_last zero i h lt = absurd (omega arith)
+get_or_last (suc k) zero h lt = omega arith
+get_or_last (suc k) (suc i) h lt = let r = get_or_last k i (omega arith) (omega arith) in omega arith
 
 -- cells that count from 1 on are the fresh row
 pub is_fresh : (cells : List ℕ) → length cells ≡ 255 → ((k : ℕ) → k < 255 → slice_index cells k ≡ k + 1) → cells ≡ last_places 255
-is_fresh cells l f = ext_get_or 0 cells (last_places 255) (l ∙ sym (length_last 255)) (λ i h. let u = get_d_last 255 i (omega arith) (omega arith) in let v = f i (omega arith) in omega arith)
+is_fresh cells l f = ext_get_or 0 cells (last_places 255) (l ∙ sym (length_last 255)) (λ i h. let u = get_or_last 255 i (omega arith) (omega arith) in let v = f i (omega arith) in omega arith)

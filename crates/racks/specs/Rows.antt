@@ -8,7 +8,7 @@ use Rattle.racks.specs.Row.{Row, row_out, draw_from, row_put, row_rule, in_front
 use Rattle.racks.specs.Accounted.{is_in, once, Accounted}
 use Rattle.racks.specs.Keeping.{points_by}
 use Rattle.racks.specs.Distinct.{at_most}
-use Rattle.racks.specs.Fresh.{fresh_accounted, get_d_falses}
+use Rattle.racks.specs.Fresh.{fresh_accounted, get_or_falses}
 
 pub some_none : {P : Type 0} {A : Type 0} {a : A} → Some a ≡ None → P
 some_none {P} {A} {a} e = absurd (let z : ◌≡◌ {A = ℕ} 0 1 = cc in omega arith)
@@ -94,7 +94,7 @@ module _ (join : ℕ → List ℕ → List ℕ) (j : Joins join) where
   pub row_points : RackPoints (row_rule join)
   row_points = points_by (row_rule join) Accounted
       (record { clear_sound = λ _. fresh_accounted; draw_sound = λ s. draw_accounted s.back s.out; put_sound = λ s p h. (outcome s p h).accounted })
-      (λ _ p. get_d_falses 256 p)
+      (λ _ p. get_or_falses 256 p)
       (λ s h. record {
         within = λ p. place s p h;
         draws = draws s.back s.out h;

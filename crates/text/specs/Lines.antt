@@ -1,5 +1,5 @@
 -- Where a line ends, and where its five values stand. Assumes nothing.
-use Rattle.std.specs.Prelude.{◌≡◌, ℕ, ◌+◌, ◌-◌, ◌<◌, ◌≤◌, ◌⊎◌, List, [], length, get_or, Ok, Err, Result, ◌≢◌, slice_index, slice_index_or}
+use Rattle.std.specs.Prelude.{◌≡◌, ℕ, ◌+◌, ◌-◌, ◌<◌, ◌≤◌, ◌⊎◌, List, [], length, Ok, Err, Result, ◌≢◌, slice_index, slice_index_or}
 use Rattle.std.specs.List.{between}
 use Rattle.faults.specs.declared.cause.Cause.{Cause}
 use Rattle.faults.specs.declared.cause.Cause.TheVariants.{LineEnd}
@@ -13,7 +13,7 @@ Free b text from m = (k : ℕ) → from ≤ k → k < m → slice_index text k �
 pub record Ended (text : List ℕ) (from m : ℕ) : Type 0 where
   pub low : from ≤ m
   pub high : m < length text
-  pub is : get_or text m 0 ≡ 10
+  pub is : slice_index text m ≡ 10
   pub first : Free 10 text from m
 
 -- it has no end
@@ -31,7 +31,7 @@ pub record Run (text : List ℕ) (from m : ℕ) : Type 0 where
 pub record Stops (text : List ℕ) (b from m : ℕ) : Type 0 where
   pub run : Run text from m
   pub high : m < length text
-  pub is : get_or text m 0 ≡ b
+  pub is : slice_index text m ≡ b
 
 -- a value that does not end before b: another comma or line end comes first, or the text ends
 pub record Astray (text : List ℕ) (b from : ℕ) : Type 0 where
@@ -46,7 +46,7 @@ line_of text starts = between (slice_index starts 0) (slice_index starts 5 - 1) 
 -- a line with five values: the i-th from starts[i] up to the byte before starts[i + 1], and the next line begins at starts[5]
 pub record Five (text starts : List ℕ) : Type 0 where
   pub line : Ended text (slice_index starts 0) (slice_index starts 5 - 1)
-  pub next : get_or starts 5 0 ≡ (slice_index starts 5 - 1) + 1
+  pub next : slice_index starts 5 ≡ (slice_index starts 5 - 1) + 1
   pub count : length (pieces 44 (line_of text starts)) ≡ 5
   pub low : (i : ℕ) → i < 5 → slice_index starts i ≤ slice_index starts (i + 1) - 1
   pub some : (i : ℕ) → i < 5 → 0 < slice_index starts (i + 1)
