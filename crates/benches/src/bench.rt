@@ -1,19 +1,14 @@
 // A heap and a rack that a script works on: each may be there or not.
-ghost use Rattle.std.specs.Prelude.{◌≡◌, is_some, Some, None};
-ghost use Rattle.scripts.specs.Parts.{mapped, seen};
-ghost use Rattle.benches.specs.Benches.{takes, after_take, gives, after_give, holds, heap_cleared, draws, after_draw, puts, after_put, rack_cleared, clears, answers, heap_after, rack_after};
-ghost use Rattle.benches.specs.Replies.{done_reply, clear_reply};
+ghost use Rattle.std.specs.Prelude.{◌≡◌, Some, None};
+ghost use Rattle.std.specs.Option.{option_copied, option_map};
 
-use crate::reply::Reply;
+use crate::reply::{Refusal, Reply};
 use faults::cause::Cause;
 use faults::fault::Fault;
-use heaps::block::Bare;
+use heaps::block::{Bare, Parts};
 use heaps::heap::Heap;
 use racks::rack::Rack;
 use scripts::command::Command;
-
-// Places of a rack are 1 to 255.
-const LAST_PLACE: u64 = 255;
 
 #[derive(Drop)]
 pub struct Bench<H, R> {
@@ -22,6 +17,8 @@ pub struct Bench<H, R> {
 }
 
 impl<H: Heap + Drop, R: Rack + Drop> Bench<H, R> {
+    ghost use Rattle.benches.specs.Benches.{takes, after_take, gives, after_give, holds, heap_cleared, draws, after_draw, puts, after_put, rack_cleared, clears, answers, heap_after, rack_after, OnHeap, OnRack, OnBoth};
+
     // Neither a heap nor a rack.
     pub fn new() -> Bench<H, R>
         ensures { result ≡ record { heap = None; rack = None } }
@@ -32,7 +29,7 @@ impl<H: Heap + Drop, R: Rack + Drop> Bench<H, R> {
         }
     }
 
-    // A heap in the place of the one before.
+    // A heap in the place of the one before. A setter for each field: what differs is the field, which no parameter names.
     pub fn set_heap(&mut self, heap: H)
         ensures { self.new ≡ record { heap = Some heap; rack = self.old.rack } }
     {
@@ -46,120 +43,65 @@ impl<H: Heap + Drop, R: Rack + Drop> Bench<H, R> {
         self.rack = Some(rack);
     }
 
-    pub fn take(&mut self, n: u64) -> Reply
-        ensures reply { result ≡ takes H.Heap.rule (mapped H.Heap.state self.old.heap) n }
-        ensures heap { mapped H.Heap.state self.new.heap ≡ after_take H.Heap.rule (mapped H.Heap.state self.old.heap) n }
-        ensures rack { self.new.rack ≡ self.old.rack }
+    pub fn take(&mut self, n: u64) -> Result<Reply, Refusal>
+        ensures { OnHeap H.Heap.state (takes H.Heap.rule n) (after_take H.Heap.rule n) self.old self.new result }
     {
-        match &mut self.heap {
-            Some(heap) => match heap.take(n) {
-                Ok(block) => granted(block),
-                Err(fault) => Reply::Refused(fault),
-            },
-            None => Reply::NoHeap,
-        }
+        let heap = self.heap.as_mut().ok_or(Refusal::NoHeap)?;
+        Ok(granted(heap.take(n)?))
     }
 
-    pub fn give(&mut self, start: u64) -> Reply
-        ensures reply { result ≡ gives H.Heap.rule (mapped H.Heap.state self.old.heap) start }
-        ensures heap { mapped H.Heap.state self.new.heap ≡ after_give H.Heap.rule (mapped H.Heap.state self.old.heap) start }
-        ensures rack { self.new.rack ≡ self.old.rack }
+    pub fn give(&mut self, start: u64) -> Result<Reply, Refusal>
+        ensures { OnHeap H.Heap.state (gives H.Heap.rule start) (after_give H.Heap.rule start) self.old self.new result }
     {
-        match &mut self.heap {
-            Some(heap) => done(heap.give(start)),
-            None => Reply::NoHeap,
-        }
+        let heap = self.heap.as_mut().ok_or(Refusal::NoHeap)?;
+        heap.give(start)?;
+        Ok(Reply::Done)
     }
 
-    pub fn holds(&self, start: u64) -> Reply
-        ensures { result ≡ holds H.Heap.rule (mapped H.Heap.state self.now.heap) start }
+    pub fn holds(&self, start: u64) -> Result<Reply, Refusal>
+        ensures { result ≡ holds H.Heap.rule start (option_map H.Heap.state self.now.heap) }
     {
-        match &self.heap {
-            Some(heap) => match heap.holds(start) {
-                Some(bytes) => Reply::Held(bytes),
-                None => Reply::Nothing,
-            },
-            None => Reply::NoHeap,
-        }
+        let heap = self.heap.as_ref().ok_or(Refusal::NoHeap)?;
+        Ok(Reply::Held(heap.holds(start)))
     }
 
-    pub fn draw(&mut self) -> Reply
-        ensures reply { result ≡ draws R.Rack.rule (mapped R.Rack.state self.old.rack) }
-        ensures rack { mapped R.Rack.state self.new.rack ≡ after_draw R.Rack.rule (mapped R.Rack.state self.old.rack) }
-        ensures heap { self.new.heap ≡ self.old.heap }
+    pub fn draw(&mut self) -> Result<Reply, Refusal>
+        ensures { OnRack R.Rack.state (draws R.Rack.rule) (after_draw R.Rack.rule) self.old self.new result }
     {
-        match &mut self.rack {
-            Some(rack) => match rack.draw() {
-                Ok(place) => Reply::Drawn(place),
-                Err(fault) => Reply::Refused(fault),
-            },
-            None => Reply::NoRack,
-        }
+        let rack = self.rack.as_mut().ok_or(Refusal::NoRack)?;
+        Ok(Reply::Drawn(rack.draw()?))
     }
 
-    pub fn put(&mut self, place: u64) -> Reply
-        ensures reply { result ≡ puts R.Rack.rule (mapped R.Rack.state self.old.rack) place }
-        ensures rack { mapped R.Rack.state self.new.rack ≡ after_put R.Rack.rule (mapped R.Rack.state self.old.rack) place }
-        ensures heap { self.new.heap ≡ self.old.heap }
+    pub fn put(&mut self, place: u64) -> Result<Reply, Refusal>
+        ensures { OnRack R.Rack.state (puts R.Rack.rule place) (after_put R.Rack.rule place) self.old self.new result }
     {
-        match &mut self.rack {
-            Some(rack) => {
-                if place > LAST_PLACE {
-                    return Reply::Refused(Fault::whole(Cause::PutRefused));
-                }
-                done(rack.put(place as u8))
-            }
-            None => Reply::NoRack,
-        }
+        let rack = self.rack.as_mut().ok_or(Refusal::NoRack)?;
+        let place = u8::try_from(place).map_err(|_| Fault::whole(Cause::PutRefused))?;
+        rack.put(place)?;
+        Ok(Reply::Done)
     }
 
     // Clears what is there.
-    pub fn clear(&mut self) -> Reply
-        ensures reply { result ≡ clears (mapped H.Heap.state self.old.heap) (mapped R.Rack.state self.old.rack) }
-        ensures heap { mapped H.Heap.state self.new.heap ≡ heap_cleared H.Heap.rule (mapped H.Heap.state self.old.heap) }
-        ensures rack { mapped R.Rack.state self.new.rack ≡ rack_cleared R.Rack.rule (mapped R.Rack.state self.old.rack) }
+    pub fn clear(&mut self) -> Result<Reply, Refusal>
+        ensures { OnBoth H.Heap.state R.Rack.state clears (heap_cleared H.Heap.rule) (rack_cleared R.Rack.rule) self.old self.new result }
     {
-        let heap = self.clear_heap();
-        let rack = self.clear_rack();
-        cleared(heap, rack)
-    }
-
-    // Whether there is a heap; it is then cleared.
-    fn clear_heap(&mut self) -> bool
-        ensures there { result ≡ is_some (mapped H.Heap.state self.old.heap) }
-        ensures heap { mapped H.Heap.state self.new.heap ≡ heap_cleared H.Heap.rule (mapped H.Heap.state self.old.heap) }
-        ensures rack { self.new.rack ≡ self.old.rack }
-    {
-        match &mut self.heap {
-            Some(heap) => {
-                heap.clear();
-                true
-            }
-            None => false,
+        if self.heap.is_none() && self.rack.is_none() {
+            return Err(Refusal::Neither);
         }
-    }
-
-    // Whether there is a rack; it is then cleared.
-    fn clear_rack(&mut self) -> bool
-        ensures there { result ≡ is_some (mapped R.Rack.state self.old.rack) }
-        ensures rack { mapped R.Rack.state self.new.rack ≡ rack_cleared R.Rack.rule (mapped R.Rack.state self.old.rack) }
-        ensures heap { self.new.heap ≡ self.old.heap }
-    {
-        match &mut self.rack {
-            Some(rack) => {
-                rack.clear();
-                true
-            }
-            None => false,
+        if let Some(heap) = &mut self.heap {
+            heap.clear();
         }
+        if let Some(rack) = &mut self.rack {
+            rack.clear();
+        }
+        Ok(Reply::Done)
     }
 
-    // What a command does to the heap and the rack that are there, and its reply.
+    // What a command does to the heap and the rack that are there, and its answer.
     // A new heap or rack and a sheet need more than these, and have none.
-    pub fn perform(&mut self, command: Command) -> Option<Reply>
-        ensures reply { result ≡ answers H.Heap.rule R.Rack.rule command (mapped H.Heap.state self.old.heap) (mapped R.Rack.state self.old.rack) }
-        ensures heap { mapped H.Heap.state self.new.heap ≡ heap_after H.Heap.rule command (mapped H.Heap.state self.old.heap) }
-        ensures rack { mapped R.Rack.state self.new.rack ≡ rack_after R.Rack.rule command (mapped R.Rack.state self.old.rack) }
+    // A match and no table of closures: a command is data that was read, and here it becomes a call.
+    pub fn perform(&mut self, command: Command) -> Option<Result<Reply, Refusal>>
+        ensures { OnBoth H.Heap.state R.Rack.state (answers H.Heap.rule R.Rack.rule command) (heap_after H.Heap.rule command) (rack_after R.Rack.rule command) self.old self.new result }
     {
         match command {
             Command::Take(n) => Some(self.take(n)),
@@ -174,30 +116,9 @@ impl<H: Heap + Drop, R: Rack + Drop> Bench<H, R> {
 
     // The heap that is there, to be looked at.
     pub fn heap(&self) -> Option<&H>
-        ensures { seen result ≡ self.now.heap }
+        ensures { option_copied result ≡ self.now.heap }
     {
         self.heap.as_ref()
-    }
-}
-
-// A call that answers nothing but whether it was refused.
-fn done(res: Result<(), Fault>) -> Reply
-    ensures { result ≡ done_reply res }
-{
-    match res {
-        Ok(()) => Reply::Done,
-        Err(fault) => Reply::Refused(fault),
-    }
-}
-
-// A clear, where there is a heap or not, and a rack or not.
-fn cleared(heap: bool, rack: bool) -> Reply
-    ensures { result ≡ clear_reply heap rack }
-{
-    if heap || rack {
-        Reply::Done
-    } else {
-        Reply::NoHeapAndNoRack
     }
 }
 
@@ -206,6 +127,6 @@ fn cleared(heap: bool, rack: bool) -> Reply
 fn granted(block: Bare) -> Reply
     ensures { result ≡ Reply.Granted block.start block.held }
 {
-    let (start, _asked, held, _place, _key) = block.keyed(0, 0).parts();
+    let Parts { start, held, .. } = block.keyed(0, 0).parts();
     Reply::Granted { start, held }
 }

@@ -1,27 +1,42 @@
-// What a call on a heap or a rack answers, as it is printed.
-ghost use Rattle.std.specs.Prelude.{Some};
-ghost use Rattle.benches.specs.Replies.{shown_reply};
+// What a call on a heap or a rack answers, or why it is refused, as it is printed.
+ghost use Rattle.std.specs.Prelude.{◌≡◌, Some};
+ghost use Rattle.benches.specs.declared.reply.Refusal.TheVariants.{Fault};
+ghost use Rattle.benches.specs.Replies.{shown_reply, shown_refusal};
 
 use faults::fault::Fault;
+use std::error::Error;
 use std::fmt;
 
-#[derive(Clone, Copy)]
+#[derive(Clone, Copy, Debug, PartialEq, Eq)]
 pub enum Reply {
     Done,
     // A take's block.
     Granted { start: u64, held: u64 },
-    Refused(Fault),
     // How many bytes the block at a start holds, if one starts there.
-    Held(u64),
-    Nothing,
+    Held(Option<u64>),
     // A draw's place.
     Drawn(u8),
+}
+
+#[derive(Clone, Copy, Debug, PartialEq, Eq)]
+pub enum Refusal {
+    // By the heap or the rack.
+    Fault(Fault),
     // There is nothing to call.
     NoHeap,
     NoRack,
-    NoHeapAndNoRack,
+    Neither,
 }
 
+impl From<Fault> for Refusal {
+    ghost from_gives = { λ fault r. r ≡ Fault fault };
+
+    fn from(fault: Fault) -> Refusal {
+        Refusal::Fault(fault)
+    }
+}
+
+// By hand, like the refusal's below, for its `output`.
 impl fmt::Display for Reply {
     ghost output = { λ r. Some (shown_reply r) };
 
@@ -29,13 +44,24 @@ impl fmt::Display for Reply {
         match *self {
             Reply::Done => f.write_str("ok"),
             Reply::Granted { start, held } => write!(f, "start {start}, held {held}"),
-            Reply::Refused(fault) => write!(f, "{fault}"),
-            Reply::Held(bytes) => write!(f, "{bytes}"),
-            Reply::Nothing => f.write_str("nothing"),
+            Reply::Held(Some(bytes)) => write!(f, "{bytes}"),
+            Reply::Held(None) => f.write_str("nothing"),
             Reply::Drawn(place) => write!(f, "{place}"),
-            Reply::NoHeap => f.write_str("no heap"),
-            Reply::NoRack => f.write_str("no rack"),
-            Reply::NoHeapAndNoRack => f.write_str("no heap and no rack"),
         }
     }
 }
+
+impl fmt::Display for Refusal {
+    ghost output = { λ r. Some (shown_refusal r) };
+
+    fn fmt<W: fmt::Write>(&self, f: &mut fmt::Formatter<W>) -> fmt::Result {
+        match *self {
+            Refusal::Fault(fault) => write!(f, "{fault}"),
+            Refusal::NoHeap => f.write_str("no heap"),
+            Refusal::NoRack => f.write_str("no rack"),
+            Refusal::Neither => f.write_str("no heap and no rack"),
+        }
+    }
+}
+
+impl Error for Refusal {}

@@ -1,5 +1,6 @@
 pub mod Rule
 pub mod State
+pub mod Top
 pub mod Fits
 pub mod Examples
 pub mod Keeping

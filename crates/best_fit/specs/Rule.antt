@@ -12,16 +12,17 @@ before g h = nat_lt g.size h.size || (g.size == h.size && nat_lt g.start h.start
 abbrev pub gap : ℕ → ℕ → Gap
 gap low at = record { start = low; size = at - low }
 
--- larger than any gap: none is found yet
-abbrev pub no_gap : Gap
-no_gap = record { start = 0; size = 513 }
+-- whether the gap g is used before the best one so far, if one is found yet
+abbrev pub improves : Gap → Option Gap → Bool
+improves g None = true
+improves g (Some h) = before g h
 
 -- the better of the best gap so far and the stretch from low up to at, if that suffices
-abbrev pub better : ℕ → Gap → ℕ → ℕ → Gap
-better need best low at = cond (nat_le need (at - low) && before (gap low at) best) (gap low at) best
+abbrev pub better : ℕ → Option Gap → ℕ → ℕ → Option Gap
+better need best low at = cond (nat_le need (at - low) && improves (gap low at) best) (Some (gap low at)) best
 
 -- the best gap, where the cells from at on are still to be seen, the first of them inside the last block, which ends at low
-unfoldable pub best_of : ℕ → Gap → ℕ → ℕ → ℕ → List ℕ → Gap
+unfoldable pub best_of : ℕ → Option Gap → ℕ → ℕ → ℕ → List ℕ → Option Gap
 best_of need best low at inner [] = better need best low 512
 best_of need best low at (suc inner) (c ∷ cs) = best_of need best low (at + 1) inner cs
 best_of need best low at zero (zero ∷ cs) = best_of need best low (at + 1) zero cs
@@ -35,6 +36,10 @@ cells_for n = (n + 7) / 8
 abbrev pub starts : List ℕ → ℕ → Bool
 starts s x = x % 8 == 0 && nat_lt 0 (slice_index s (x / 8))
 
+-- the cell of the living block that starts at x
+abbrev pub cell_at : List ℕ → ℕ → Option ℕ
+cell_at s x = cond (starts s x) (Some (x / 8)) None
+
 abbrev pub best_fit_held : List ℕ → ℕ → Option ℕ
 best_fit_held s x = cond (starts s x) (Some (8 * slice_index s (x / 8))) None
 
@@ -42,11 +47,12 @@ abbrev pub refused : List ℕ → Taken (List ℕ)
 refused s = record { answer = None; after = s }
 
 -- a block of so many cells at the low end of the gap found, if one was
-abbrev pub placed : List ℕ → ℕ → Gap → Taken (List ℕ)
-placed s need g = cond (nat_le g.size 512) (record { answer = Some (record { start = 8 * g.start; held = 8 * need }); after = slice_set s g.start need }) (refused s)
+abbrev pub placed : List ℕ → ℕ → Option Gap → Taken (List ℕ)
+placed s need (Some g) = record { answer = Some (record { start = 8 * g.start; held = 8 * need }); after = slice_set s g.start need }
+placed s need None = refused s
 
 abbrev pub best_fit_take : List ℕ → ℕ → Taken (List ℕ)
-best_fit_take s n = cond (nat_le 1 n && nat_le n 4096) (placed s (cells_for n) (best_of (cells_for n) no_gap 0 0 0 s)) (refused s)
+best_fit_take s n = cond (nat_le 1 n && nat_le n 4096) (placed s (cells_for n) (best_of (cells_for n) None 0 0 0 s)) (refused s)
 
 abbrev pub given : List ℕ → ℕ → Bool → Given (List ℕ)
 given s x true = record { answer = true; after = slice_set s (x / 8) 0 }

@@ -3,4 +3,4 @@ use Rattle.std.specs.Prelude.{ℕ, List}
 use Rattle.best_fit.specs.declared.heap.BestFit.{BestFit}
 
 abbrev pub best_fit_state : BestFit → List ℕ
-best_fit_state h = h.cells
+best_fit_state h = h

@@ -1,13 +1,8 @@
 -- The rule of one of two heaps: each call is a call of the heap that is there. Assumes nothing.
-use Rattle.std.specs.Prelude.{ℕ, ◌⊎◌, Option}
+use Rattle.std.specs.Prelude.{ℕ, ◌⊎◌}
 use Rattle.std.proofs.Common.{inl, inr}
 use Rattle.heaps.specs.Rule.{HeapRule, Taken, Given}
-use Rattle.choices.specs.declared.heap.HeapChoice.{HeapChoice}
-use Rattle.choices.specs.declared.heap.HeapChoice.TheVariants.{First, Second}
-
-abbrev pub either_state : {A B S T : Type 0} → (A → S) → (B → T) → HeapChoice A B → S ⊎ T
-either_state f g (First a) = inl (f a)
-either_state f g (Second b) = inr (g b)
+use Rattle.choices.specs.Choice.{either_step, either_of}
 
 -- what a call comes to, when its heap is the first or the second
 abbrev pub taken_in : {S T : Type 0} → (S → T) → Taken S → Taken T
@@ -17,10 +12,6 @@ abbrev pub given_in : {S T : Type 0} → (S → T) → Given S → Given T
 given_in f g = record { answer = g.answer; after = f g.after }
 
 module _ (R Q : HeapRule) where
-  abbrev pub either_held : R.State ⊎ Q.State → ℕ → Option ℕ
-  either_held (inl s) = R.held s
-  either_held (inr s) = Q.held s
-
   abbrev pub either_take : R.State ⊎ Q.State → ℕ → Taken (R.State ⊎ Q.State)
   either_take (inl s) n = taken_in inl (R.take s n)
   either_take (inr s) n = taken_in inr (Q.take s n)
@@ -29,15 +20,11 @@ module _ (R Q : HeapRule) where
   either_give (inl s) x = given_in inl (R.give s x)
   either_give (inr s) x = given_in inr (Q.give s x)
 
-  abbrev pub either_clear : R.State ⊎ Q.State → R.State ⊎ Q.State
-  either_clear (inl s) = inl (R.clear s)
-  either_clear (inr s) = inr (Q.clear s)
-
   abbrev pub either_rule : HeapRule
   either_rule = record {
     State = R.State ⊎ Q.State;
-    held = either_held;
+    held = either_of R.held Q.held;
     take = either_take;
     give = either_give;
-    clear = either_clear;
+    clear = either_step R.clear Q.clear;
   }

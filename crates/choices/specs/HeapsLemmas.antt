@@ -4,7 +4,8 @@ use Rattle.std.proofs.Common.{inl, inr}
 use Rattle.heaps.specs.Rule.{HeapRule}
 use Rattle.heaps.specs.Points.{Points, Keeps, Reached, cleared, after_take, after_give}
 use Rattle.heaps.proofs.Keeping.{Kept, points_by}
-use Rattle.choices.specs.Heaps.{either_rule, either_clear, either_take, either_give}
+use Rattle.choices.specs.Choice.{either_step}
+use Rattle.choices.specs.Heaps.{either_rule, either_take, either_give}
 
 module _ (R Q : HeapRule) (p : Points R) (q : Points Q) where
   -- the heap that is there is in a state that it can be in
@@ -12,7 +13,7 @@ module _ (R Q : HeapRule) (p : Points R) (q : Points Q) where
   Sound (inl s) = Reached R s
   Sound (inr s) = Reached Q s
 
-  clear_sound : (s : R.State ⊎ Q.State) → Sound (either_clear R Q s)
+  clear_sound : (s : R.State ⊎ Q.State) → Sound (either_step R.clear Q.clear s)
   clear_sound (inl s) = cleared s
   clear_sound (inr s) = cleared s
 
@@ -27,7 +28,7 @@ module _ (R Q : HeapRule) (p : Points R) (q : Points Q) where
   kept : Kept (either_rule R Q) Sound
   kept = record { clear_sound = clear_sound; take_sound = take_sound; give_sound = give_sound }
 
-  clears : (s : R.State ⊎ Q.State) (x : ℕ) → (either_rule R Q).held (either_clear R Q s) x ≡ None
+  clears : (s : R.State ⊎ Q.State) (x : ℕ) → (either_rule R Q).held (either_step R.clear Q.clear s) x ≡ None
   clears (inl s) x = p.clears s x
   clears (inr s) x = q.clears s x
 

@@ -1,3 +1,4 @@
+pub mod Choice
 pub mod Heaps
 pub mod Racks
 pub mod HeapsLemmas

@@ -4,7 +4,8 @@ use Rattle.std.proofs.Common.{inl, inr}
 use Rattle.racks.specs.Rule.{RackRule}
 use Rattle.racks.specs.Points.{RackPoints, Keeps, Reached, cleared, after_draw, after_put}
 use Rattle.racks.specs.Keeping.{Kept, points_by}
-use Rattle.choices.specs.Racks.{either_rule, either_clear, either_draw, either_put}
+use Rattle.choices.specs.Choice.{either_step}
+use Rattle.choices.specs.Racks.{either_rule, either_draw, either_put}
 
 module _ (R Q : RackRule) (p : RackPoints R) (q : RackPoints Q) where
   -- the rack that is there is in a state that it can be in
@@ -12,7 +13,7 @@ module _ (R Q : RackRule) (p : RackPoints R) (q : RackPoints Q) where
   Sound (inl s) = Reached R s
   Sound (inr s) = Reached Q s
 
-  clear_sound : (s : R.State ⊎ Q.State) → Sound (either_clear R Q s)
+  clear_sound : (s : R.State ⊎ Q.State) → Sound (either_step R.clear Q.clear s)
   clear_sound (inl s) = cleared s
   clear_sound (inr s) = cleared s
 
@@ -27,7 +28,7 @@ module _ (R Q : RackRule) (p : RackPoints R) (q : RackPoints Q) where
   kept : Kept (either_rule R Q) Sound
   kept = record { clear_sound = clear_sound; draw_sound = draw_sound; put_sound = put_sound }
 
-  clears : (s : R.State ⊎ Q.State) (x : ℕ) → (either_rule R Q).out (either_clear R Q s) x ≡ false
+  clears : (s : R.State ⊎ Q.State) (x : ℕ) → (either_rule R Q).out (either_step R.clear Q.clear s) x ≡ false
   clears (inl s) x = p.clears s x
   clears (inr s) x = q.clears s x
 

@@ -1,17 +1,13 @@
-// One of two racks: every call goes to the one that is there.
-ghost use Rattle.choices.specs.Racks.{either_rule, either_state};
+// One of two racks is a rack: every call goes to the one that is there.
+ghost use Rattle.choices.specs.Choice.{either_state};
+ghost use Rattle.choices.specs.Racks.{either_rule};
 ghost use Rattle.choices.specs.RacksLemmas.{either_points};
 
+use crate::choice::Choice;
 use faults::fault::Fault;
 use racks::rack::Rack;
 
-#[derive(Drop)]
-pub enum RackChoice<A, B> {
-    First(A),
-    Second(B),
-}
-
-impl<A: Rack, B: Rack> Rack for RackChoice<A, B> {
+impl<A: Rack, B: Rack> Rack for Choice<A, B> {
     ghost rule = { either_rule A.Rack.rule B.Rack.rule };
 
     ghost state = { either_state A.Rack.state B.Rack.state };
@@ -20,22 +16,22 @@ impl<A: Rack, B: Rack> Rack for RackChoice<A, B> {
 
     fn draw(&mut self) -> Result<u8, Fault> {
         match self {
-            RackChoice::First(rack) => rack.draw(),
-            RackChoice::Second(rack) => rack.draw(),
+            Choice::First(rack) => rack.draw(),
+            Choice::Second(rack) => rack.draw(),
         }
     }
 
     fn put(&mut self, place: u8) -> Result<(), Fault> {
         match self {
-            RackChoice::First(rack) => rack.put(place),
-            RackChoice::Second(rack) => rack.put(place),
+            Choice::First(rack) => rack.put(place),
+            Choice::Second(rack) => rack.put(place),
         }
     }
 
     fn clear(&mut self) {
         match self {
-            RackChoice::First(rack) => rack.clear(),
-            RackChoice::Second(rack) => rack.clear(),
+            Choice::First(rack) => rack.clear(),
+            Choice::Second(rack) => rack.clear(),
         }
     }
 }

@@ -5,11 +5,13 @@ ghost use Rattle.faults.specs.Faults.{fault_at, whole_fault, shown_fault};
 
 use crate::cause::Cause;
 use crate::part::Part;
+use std::error::Error;
 use std::fmt;
 
 #[derive(Clone, Copy, Debug, PartialEq, Eq)]
 pub struct Fault {
     cause: Cause,
+    // 0 where the cause names none, and no Option: a fault is answered and printed with the number 0 then.
     line: u32,
 }
 
@@ -56,13 +58,14 @@ impl Fault {
     }
 }
 
+// By hand, since clauses know what is printed by `output`, which no derive gives.
 impl fmt::Display for Fault {
     ghost output = { λ f. Some (shown_fault f) };
 
     fn fmt<W: fmt::Write>(&self, f: &mut fmt::Formatter<W>) -> fmt::Result {
-        let number = self.number();
-        let line = self.line;
-        let part = self.part().name();
-        write!(f, "fault {number}, line {line}, {part}")
+        let Fault { cause, line } = *self;
+        write!(f, "fault {}, line {line}, {}", cause.number(), cause.part())
     }
 }
+
+impl Error for Fault {}

@@ -26,6 +26,7 @@ impl Part {
     }
 }
 
+// By hand, for its `output`.
 impl fmt::Display for Part {
     ghost output = { λ p. Some (name_of p) };
 

@@ -143,4 +143,4 @@ pub operator_tells : (v : List ℕ) (c : Code) → v ≡ (row c).word → operat
 operator_tells v c h =
     ap (λ x. operator_of (says x)) h
     ∙ ap operator_of (says_word c)
-    ∙ ap (λ o. or_else o UnknownWord) (word_back c).0
+    ∙ ap (λ o. or_else o UnknownWord) (word_back c)

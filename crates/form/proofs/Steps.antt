@@ -2,7 +2,7 @@
 use Rattle.std.proofs.Common.{◌≡◌, ℕ, ◌+◌, ◌<◌, ◌≤◌, min, eqb, List, [], ◌∷◌, ◌++◌, length, Ok, Err, ⊎_elim, arith}
 use Rattle.std.proofs.lemmas.Bool.{le-leb, lt-leb, le-ltb, lt-ltb, eq-eqb, ne_eqb, cases_lt, cond_both}
 use Rattle.faults.specs.declared.cause.Cause.{Cause}
-use Rattle.faults.specs.declared.cause.Cause.TheVariants.{LineEnd, NoRoom, ValueCount}
+use Rattle.faults.specs.declared.cause.Cause.TheVariants.{LineEnd, NoRoom}
 use Rattle.operations.specs.declared.operation.Operation.{Operation}
 use Rattle.form.specs.declared.order.Order.{Order}
 use Rattle.form.specs.Pieces.{before, pieces}
@@ -23,9 +23,6 @@ module _ (o : Order) (room k : ℕ) (l : List ℕ) where
 
   pub entry_full : length l ≤ 80 → min 512 room ≤ k → entry o room k l ≡ Err NoRoom
   entry_full short h = rw (le-ltb 80 (length l) short, le-leb (min 512 room) k h)
-
-  pub entry_count : length l ≤ 80 → k < min 512 room → (length (pieces 44 l) ≡ 5 → ⊥) → entry o room k l ≡ Err ValueCount
-  entry_count short h five = rw (le-ltb 80 (length l) short, lt-leb (min 512 room) k h, ne_eqb (length (pieces 44 l)) 5 five)
 
   pub entry_made : length l ≤ 80 → k < min 512 room → length (pieces 44 l) ≡ 5 → entry o room k l ≡ operation o (k + 2) (pieces 44 l)
   entry_made short h five = rw (le-ltb 80 (length l) short, lt-leb (min 512 room) k h, eq-eqb (length (pieces 44 l)) 5 five)

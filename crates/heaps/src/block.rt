@@ -13,11 +13,17 @@ pub struct Bare {
 
 // A granted block with its lock: only this can be set into a register.
 pub struct Keyed {
-    pub(crate) start: u64,
-    pub(crate) asked: u64,
-    pub(crate) held: u64,
+    pub(crate) block: Bare,
     pub(crate) place: u8,
     pub(crate) key: u64,
-    ghost enough: { asked ≤ held },
-    ghost inside: { start + held ≤ 4096 },
+}
+
+// The numbers of a keyed block that was spent.
+#[derive(Clone, Copy, Debug, PartialEq, Eq)]
+pub struct Parts {
+    pub start: u64,
+    pub asked: u64,
+    pub held: u64,
+    pub place: u8,
+    pub key: u64,
 }

@@ -39,6 +39,7 @@ pub trait Heap {
             asked: _,
             held: _,
         } = block;
+        // The block was granted and not given since, so the answer says nothing.
         let _ = self.give(start);
     }
 

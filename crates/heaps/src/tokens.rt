@@ -2,7 +2,7 @@
 ghost use Rattle.std.specs.Prelude.{◌≡◌, ◌+◌, ◌≤◌, IfOk};
 ghost use Rattle.heaps.specs.Answers.{plain, bare_block};
 
-use crate::block::{Bare, Keyed};
+use crate::block::{Bare, Keyed, Parts};
 use crate::limits::HEAP_BYTES;
 use faults::cause::Cause;
 use faults::fault::Fault;
@@ -40,17 +40,10 @@ impl Bare {
 
     // The block with a place and a key.
     pub fn keyed(self, place: u8, key: u64) -> Keyed
-        ensures start { result.start ≡ self.start }
-        ensures asked { result.asked ≡ self.asked }
-        ensures held { result.held ≡ self.held }
-        ensures place { result.place ≡ place }
-        ensures key { result.key ≡ key }
+        ensures { result ≡ record { block = self; place = place; key = key } }
     {
-        let Bare { start, asked, held } = self;
         Keyed {
-            start,
-            asked,
-            held,
+            block: self,
             place,
             key,
         }
@@ -58,18 +51,19 @@ impl Bare {
 }
 
 impl Keyed {
-    // The block's numbers: start, bytes asked for, bytes held, place and key. This spends it.
-    pub fn parts(self) -> (u64, u64, u64, u8, u64)
-        ensures is { result ≡ (self.start, self.asked, self.held, self.place, self.key) }
-        ensures inside { (result.1 ≤ result.2) × (result.0 + result.2 ≤ 4096) }
+    // The block's numbers. This spends it.
+    pub fn parts(self) -> Parts
+        ensures is { result ≡ record { start = self.block.start; asked = self.block.asked; held = self.block.held; place = self.place; key = self.key } }
+        ensures inside { (result.asked ≤ result.held) × (result.start + result.held ≤ 4096) }
     {
-        let Keyed {
+        let Keyed { block, place, key } = self;
+        let Bare { start, asked, held } = block;
+        Parts {
             start,
             asked,
             held,
             place,
             key,
-        } = self;
-        (start, asked, held, place, key)
+        }
     }
 }

@@ -1,8 +1,9 @@
 // The lines that are printed, as text.
 ghost use Rattle.std.specs.Prelude.{◌≡◌, IfOk, string_bytes};
-ghost use Rattle.listing.specs.Lines.{unit_of, step_line, summary_line};
+ghost use Rattle.listing.specs.Lines.{step_line, summary_line};
 
 use faults::fault::Fault;
+use numerals::noun;
 use operations::step::Step;
 use std::alloc::{AllocError, Global};
 
@@ -14,22 +15,12 @@ pub fn step_line(heap: Global, position: usize, step: Step) -> Result<String, Al
     format!(in heap; "  {position}: line {line}: {step}")
 }
 
-// What so many operations are called.
-fn unit(count: usize) -> &'static str
-    ensures { result.now ≡ unit_of count }
-{
-    if count == 1 {
-        "operation"
-    } else {
-        "operations"
-    }
-}
-
 // How many operations a module has.
 pub fn summary_line(heap: Global, name: &str, count: usize) -> Result<String, AllocError>
     ensures { IfOk result (λ s. string_bytes s ≡ summary_line name.now count) }
 {
-    let unit = unit(count);
+    // no From leads from usize to u64
+    let unit = noun(count as u64, "operation", "operations");
     format!(in heap; "{name}: {count} {unit}")
 }
 

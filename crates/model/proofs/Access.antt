@@ -1,8 +1,8 @@
 -- Loads, stores and their checks: both sides do them alike. Assumes nothing.
-use Rattle.std.proofs.Common.{◌≡◌, ℕ, ◌+◌, ◌-◌, ◌/◌, ◌%◌, ◌<◌, ◌≤◌, Bool, true, false, eqb, leb, ◌⊎◌, List, [], ◌∷◌, length, get_or, None, Option, sym, refl, ap, ◌∙◌, subst, inl, inr, arith}
+use Rattle.std.proofs.Common.{◌≡◌, ℕ, ◌+◌, ◌-◌, ◌/◌, ◌%◌, ◌<◌, ◌≤◌, Bool, true, false, eqb, leb, ◌⊎◌, List, [], ◌∷◌, length, get_or, None, Option, sym, refl, ap, ◌∙◌, subst, arith, Ok}
 use mathlib.Core.Path.{fun_ext}
 use Rattle.std.proofs.lemmas.List.{length-set}
-use Rattle.std.proofs.lemmas.Bool.{and_parts, leb-true, cases_eq}
+use Rattle.std.proofs.lemmas.Bool.{and_parts, leb-true}
 use Rattle.model.specs.Parts.{put, part, value, bytes}
 use Rattle.heaps.specs.Rule.{HeapRule}
 use Rattle.heaps.specs.Points.{Apart}
@@ -14,7 +14,7 @@ use Rattle.model.specs.History.{Book, Grant, nth, outline, book, none, change}
 use Rattle.model.specs.Machine
 use Rattle.model.specs.History
 use Rattle.model.proofs.Sheeting.{Both, Rows}
-use Rattle.model.proofs.Views.{upd, upd_same, upd_other, get_set, length_put, window_put, window_out, part_same, upd_map}
+use Rattle.model.proofs.Views.{upd, upd_by, get_set, length_put, window_put, window_out, part_same, upd_map}
 use Rattle.model.proofs.Relation.{World, Alike, Fits, Kept, Stored, Live, Ties, Rel}
 
 pub record Passed (o : Outline) (x n : ℕ) : Type 0 where
@@ -22,12 +22,12 @@ pub record Passed (o : Outline) (x n : ℕ) : Type 0 where
   pub low : o.start ≤ x
   pub high : x + n ≤ o.start + o.asked
 
-three : (a b e : Bool) → faults a b e ≡ None → (a ≡ true) × (b ≡ true)
+three : (a b e : Bool) → faults a b e ≡ Ok tt → (a ≡ true) × (b ≡ true)
 three false b e h = (cc, cc)
 three true false e h = (cc, cc)
 three true true e h = (refl, refl)
 
-pub passed : (o : Outline) (x n : ℕ) → faults o.living (within o.start (o.start + o.asked) x n) (eqb (x % n) 0) ≡ None → Passed o x n
+pub passed : (o : Outline) (x n : ℕ) → faults o.living (within o.start (o.start + o.asked) x n) (eqb (x % n) 0) ≡ Ok tt → Passed o x n
 passed o x n h =
     let t = three o.living (within o.start (o.start + o.asked) x n) (eqb (x % n) 0) h in
     let p = and_parts (leb o.start x) (leb (x + n) (o.start + o.asked)) t.1 in
@@ -107,14 +107,8 @@ module _ (w : World) (G : ℕ → Grant) (memory : List ℕ) (shadow : List (Opt
   stored_write = record {
     room = length_put memory x bs ∙ st.room;
     words = length_put shadow (x / 8) ts ∙ st.words;
-    kept = λ h m live. go h m live (cases_eq h g);
+    kept = λ h m. upd_by (λ y. y.outline.living ≡ true → Kept w y (put memory x bs) (put shadow (x / 8) ts)) G g (written (G g) x bs ds) h (λ _ _. same_grant) (λ e live. other_grant h (m, live) e);
   }
-    where
-      go : (h : ℕ) → h < w.many → (upd G g (written (G g) x bs ds) h).outline.living ≡ true → (h ≡ g) ⊎ (h ≡ g → ⊥) → Kept w (upd G g (written (G g) x bs ds) h) (put memory x bs) (put shadow (x / 8) ts)
-      go h m live (inl e) = rw (upd_same G g (written (G g) x bs ds) h e) same_grant
-      go h m live (inr e) =
-          let q : (G h).outline.living ≡ true = rw (upd_other G g (written (G g) x bs ds) h e) at live in
-          rw (upd_other G g (written (G g) x bs ds) h e) (other_grant h (m, q) e)
 
 module _ {S : Type 0} (b : Book S) (g : ℕ) (l : g < length b.grants) (x : Grant) where
   pub nth_change : (λ h. nth (change b g x) h) ≡ upd (λ h. nth b h) g x
@@ -124,11 +118,7 @@ module _ {S : Type 0} (b : Book S) (g : ℕ) (l : g < length b.grants) (x : Gran
   outline_change = fun_ext (λ h. ap (λ (y : Grant). y.outline) (get_set b.grants g x none h l) ∙ upd_map (λ (y : Grant). y.outline) (λ i. nth b i) g x h)
 
 upd_nothing : {X : Type 0} (f : ℕ → X) (g : ℕ) (x : X) → x ≡ f g → upd f g x ≡ f
-upd_nothing f g x e = fun_ext (λ h. go h (cases_eq h g))
-  where
-    go : (h : ℕ) → (h ≡ g) ⊎ (h ≡ g → ⊥) → upd f g x h ≡ f h
-    go h (inl q) = upd_same f g x h q ∙ (e ∙ ap f (sym q))
-    go h (inr q) = upd_other f g x h q
+upd_nothing f g x e = fun_ext (λ h. upd_by (λ y. y ≡ f h) f g x h (λ q. e ∙ ap f (sym q)) (λ _. refl))
 
 module _ (H : HeapRule) (R : RackRule) (w : World) (k : ℕ) (c : Core H.State R.State) (b : Book H.State) (r : Rel H R w k c b) (s : Sidecar) (g : ℕ) (a : Alike w s g) where
   pub write_like : (x : ℕ) (bs : List ℕ) (ts : List (Option Sidecar)) (ds : List (Option ℕ)) → Passed (outline b g) x (length bs) → Rows (Both (Alike w)) ts ds →
@@ -147,17 +137,17 @@ module _ (H : HeapRule) (R : RackRule) (w : World) (k : ℕ) (c : Core H.State R
             (stored_write w (λ h. nth b h) c.memory c.shadow r.stored r.ties.fits r.ties.apart g a.0 x bs ts ds p rows short);
       }
 
-  pub store_like : (x v : ℕ) (u₁ : Option Sidecar) (u₂ : Option ℕ) → (book H).check b g x 8 ≡ None → Both (Alike w) u₁ u₂ → Rel H R w k ((machine H R).store c s x v u₁) ((book H).store b g x v u₂)
+  pub store_like : (x v : ℕ) (u₁ : Option Sidecar) (u₂ : Option ℕ) → (book H).check b g x 8 ≡ Ok tt → Both (Alike w) u₁ u₂ → Rel H R w k ((machine H R).store c s x v u₁) ((book H).store b g x v u₂)
   store_like x v u₁ u₂ e t = let p = passed (outline b g) x 8 e in write_like x (bytes 8 v) (u₁ ∷ []) (u₂ ∷ []) p (t, tt) (omega arith)
 
-  pub storeb_like : (x v : ℕ) → (book H).check b g x 1 ≡ None → Rel H R w k ((machine H R).storeb c s x v) ((book H).storeb b g x v)
+  pub storeb_like : (x v : ℕ) → (book H).check b g x 1 ≡ Ok tt → Rel H R w k ((machine H R).storeb c s x v) ((book H).storeb b g x v)
   storeb_like x v e = let p = passed (outline b g) x 1 e in write_like x ((v % 256) ∷ []) [] [] p tt (omega arith)
 
-  pub load_like : (x : ℕ) → (book H).check b g x 8 ≡ None → (machine H R).load c s x ≡ (book H).load b g x
+  pub load_like : (x : ℕ) → (book H).check b g x 8 ≡ Ok tt → (machine H R).load c s x ≡ (book H).load b g x
   load_like x e = ap value (part_like H R w k c b r s g a x 8 (passed (outline b g) x 8 e))
 
-  pub mark_like : (x : ℕ) → (book H).check b g x 8 ≡ None → Both (Alike w) ((machine H R).tag_at c s x) ((book H).tag_at b g x)
+  pub mark_like : (x : ℕ) → (book H).check b g x 8 ≡ Ok tt → Both (Alike w) ((machine H R).tag_at c s x) ((book H).tag_at b g x)
   mark_like x e = tag_like H R w k c b r s g a x 8 (passed (outline b g) x 8 e) refl
 
-  pub loadb_like : (x : ℕ) → (book H).check b g x 1 ≡ None → (machine H R).loadb c s x ≡ (book H).loadb b g x
+  pub loadb_like : (x : ℕ) → (book H).check b g x 1 ≡ Ok tt → (machine H R).loadb c s x ≡ (book H).loadb b g x
   loadb_like x e = ap (λ l. get_or l 0 0) (part_like H R w k c b r s g a x 1 (passed (outline b g) x 1 e))

@@ -12,7 +12,7 @@ use Rattle.model.specs.Machine.{side, covers}
 use Rattle.model.specs.Grants.{Outline, Kind, block, frame, is_block, is_frame, living_block, living_frame, count, bit}
 use Rattle.model.specs.History.{Grant, born}
 use Rattle.model.proofs.Sheeting.{Both, both_map}
-use Rattle.model.proofs.Views.{upd, upd_same, upd_other, get_set, length_put, window_out, window_new}
+use Rattle.model.proofs.Views.{upd, upd_same, upd_other, upd_by, get_set, length_put, window_out, window_new}
 use Rattle.model.proofs.Counts.{count_suc, count_ext, count_upd}
 use Rattle.model.proofs.Relation.{World, Alike, Fits, Kept, Stored, Live, Ties}
 use Rattle.model.proofs.Ending.{zone_place}
@@ -80,17 +80,9 @@ module _ (w : World) (G : ℕ → Grant) (memory : List ℕ) (shadow : List (Opt
   stored_born = record {
     room = length_put memory start zeros ∙ st.room;
     words = length_put shadow (start / 8) nones ∙ st.words;
-    kept = λ h m live. go h m live (cases_eq h w.many);
+    kept = λ h m. upd_by (λ y. y.outline.living ≡ true → Kept (more w x) y (put memory start zeros) (put shadow (start / 8) nones)) G w.many (born kd start asked held) h
+        (λ _ _. new_kept) (λ e live. old_kept h (omega arith, live));
   }
-    where
-      y : Grant
-      y = born kd start asked held
-
-      go : (h : ℕ) → h < suc w.many → (upd G w.many y h).outline.living ≡ true → (h ≡ w.many) ⊎ (h ≡ w.many → ⊥) → Kept (more w x) (upd G w.many y h) (put memory start zeros) (put shadow (start / 8) nones)
-      go h m live (inl e) = rw (upd_same G w.many y h e) new_kept
-      go h m live (inr e) =
-          let q : (G h).outline.living ≡ true = rw (upd_other G w.many y h e) at live in
-          rw (upd_other G w.many y h e) (old_kept h (omega arith, q))
 
 -- the ties that every birth keeps
 module _ (H : HeapRule) (R : RackRule) (w : World) (k : ℕ) (O : ℕ → Outline) (locks : List ℕ) (s : H.State) (r : R.State) (T : Ties H R w k O locks s r)
@@ -156,11 +148,8 @@ module _ (H : HeapRule) (R : RackRule) (w : World) (k : ℕ) (O : ℕ → Outlin
     test z = z.living && f z.kind
 
     pub test_old : f o.kind ≡ false → (h : ℕ) → h < suc w.many → test (O' h) ≡ true → (h < w.many) × (h ≡ w.many → ⊥) × (test (O h) ≡ true)
-    test_old e h m t = go (cases_eq h w.many)
-      where
-        go : (h ≡ w.many) ⊎ (h ≡ w.many → ⊥) → (h < w.many) × (h ≡ w.many → ⊥) × (test (O h) ≡ true)
-        go (inl q) = absurd (true≢false (sym (and_parts (O' h).living (f (O' h).kind) t).1 ∙ (ap (λ (z : Outline). f z.kind) (newest h q) ∙ e)))
-        go (inr q) = (omega arith, q, ap test (sym (older h q)) ∙ t)
+    test_old e h m = upd_by (λ y. test y ≡ true → (h < w.many) × (h ≡ w.many → ⊥) × (test (O h) ≡ true)) O w.many o h
+        (λ q t. absurd (true≢false (sym (and_parts o.living (f o.kind) t).1 ∙ e))) (λ q t. (omega arith, q, t))
 
     pub count_born : count (λ h. test (O' h)) (suc w.many) ≡ bit (f o.kind) + count (λ h. test (O h)) w.many
     count_born = count_suc (λ h. test (O' h)) w.many ∙ rw (count_ext (λ h. test (O' h)) (λ h. test (O h)) w.many (λ i l. ap test (older i (omega arith))), newest w.many refl, living)
@@ -243,15 +232,12 @@ module _ (H : HeapRule) (R : RackRule) (w : World) (k : ℕ) (O : ℕ → Outlin
       blocks h m t (inr e) =
           let l : h < w.many = omega arith in
           let old = T.blocks h l (ap living_block (sym (older h e)) ∙ t) in
-          let ne : (O h).start - 1024 ≡ b.start → ⊥ = λ q. some_none (sym old.0 ∙ (ap (H.held s) q ∙ gr.new)) in
+          let ne : (O h).start - 1024 ≡ b.start → ⊥ = λ q. let v = sym old.0 ∙ (ap (H.held s) q ∙ gr.new) in cc in
           let np : (w.of h).place ≡ x.place → ⊥ = λ q. true≢false (sym old.1 ∙ (ap (R.out r) q ∙ dr.new)) in
           rw (older h e, more_old w x h l) (
             gr.adds ((O h).start - 1024) ∙ (upd_other (H.held s) b.start (Some b.held) ((O h).start - 1024) ne ∙ old.0),
             dr.adds (w.of h).place ∙ (upd_other (R.out r) x.place true (w.of h).place np ∙ old.1),
           )
-        where
-          some_none : {v : ℕ} → Some v ≡ None → ⊥
-          some_none h = let z : ◌≡◌ {A = ℕ} 0 1 = cc in omega arith
 
       up : (a u y z v c : ℕ) → a ≡ u → u + 0 ≡ y + 1 → y ≡ z → v ≡ 1 + z → a ≡ v
       up a u y z v c p q t j = omega arith

@@ -3,9 +3,9 @@ use Rattle.std.proofs.Common.{◌≡◌, ℕ, zero, suc, ◌<◌, ◌≤◌, Boo
 use Rattle.std.proofs.lemmas.List.{length-set, get_or_past}
 use Rattle.std.proofs.lemmas.Bool.{and_parts, and_from, cases_eq, cases_lt, true≢false}
 use Rattle.heaps.specs.Rule.{HeapRule}
-use Rattle.model.specs.Sheet.{State, close, leaves, depth}
+use Rattle.model.specs.Sheet.{close, leaves, depth}
 use Rattle.model.specs.Grants.{is_frame, Outline, over, living_frame, count, bit}
-use Rattle.model.specs.History.{Book, Grant, nth, outline, book, none, ended, change, youngest}
+use Rattle.model.specs.History.{Book, Grant, nth, outline, book, none, ended, change, youngest, OfBook}
 use Rattle.model.specs.Lives.{Lives, without_frames}
 use Rattle.model.proofs.Views.{upd, upd_same, upd_other, get_set}
 use Rattle.model.proofs.Counts.{count_ext, count_upd}
@@ -105,7 +105,7 @@ module _ (H : HeapRule) where
   closes l (suc k) b C = closes l k ((book H).leave b k) (closing_more l b k C)
 
   -- a start
-  pub close_lives : (l : Lives) (m : State ℕ (Book H.State)) → Same l m.store (depth m) → Same (without_frames l) (close (book H) m).store 0
+  pub close_lives : (l : Lives) (m : OfBook H) → Same l m.store (depth m) → Same (without_frames l) (close (book H) m).store 0
   close_lives l m A = closing_all l _ (closes l (depth m) m.store (record {
     many = A.many;
     of = λ g. inl (sym (A.of g));

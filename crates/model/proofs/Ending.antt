@@ -7,7 +7,7 @@ use Rattle.racks.specs.Rule.{RackRule}
 use Rattle.model.specs.declared.sidecar.Sidecar.{Sidecar}
 use Rattle.model.specs.Machine.{side}
 use Rattle.model.specs.Grants.{over, Outline, Kind, globals, block, frame, is_block, is_frame, count}
-use Rattle.model.proofs.Views.{upd, upd_same, upd_other, upd_map, get_set}
+use Rattle.model.proofs.Views.{upd, upd_same, upd_other, upd_by, upd_map, get_set}
 use Rattle.model.proofs.Counts.{count_ext, count_upd}
 use Rattle.model.proofs.Relation.{World, Zone, Fits, Live, Ties}
 
@@ -59,13 +59,10 @@ module _ (H : HeapRule) (R : RackRule) (w : World) (k : ℕ) (O : ℕ → Outlin
         ((m.0, ap (λ (o : Outline). o.living) (sym (same h ne)) ∙ m.1), ne)
 
     pub fits_end : (h : ℕ) → h < w.many → Fits h (w.of h) (O' h)
-    fits_end h m = go (cases_eq h g)
-      where
-        go : (h ≡ g) ⊎ (h ≡ g → ⊥) → Fits h (w.of h) (O' h)
-        go (inr e) = rw (same h e) (T.fits h m)
-        go (inl e) =
-            let f : Fits h (w.of h) (O g) = rw (ap O (sym e)) (T.fits h m) in
-            rw (dead h e) (record { key = f.key; base = f.base; bound = f.bound; even = f.even; whole = f.whole; roomy = f.roomy; inside = f.inside; zone = f.zone })
+    fits_end h m = upd_by (λ o. Fits h (w.of h) o) O g (over (O g)) h
+        (λ e. let f : Fits h (w.of h) (O g) = rw (ap O (sym e)) (T.fits h m) in
+        record { key = f.key; base = f.base; bound = f.bound; even = f.even; whole = f.whole; roomy = f.roomy; inside = f.inside; zone = f.zone })
+        (λ _. T.fits h m)
 
     pub locked_end : (h : ℕ) → h < w.many → eqb (get_or (set locks at 0) (w.of h).place 0) (h + 1) ≡ (O' h).living
     locked_end h m = go (cases_eq h g) (cases_eq (w.of h).place at) (cases_Bool (O h).living)
@@ -102,11 +99,7 @@ module _ (H : HeapRule) (R : RackRule) (w : World) (k : ℕ) (O : ℕ → Outlin
 
       -- where the grant that ends was of another kind, no test changes
       pub test_same : f (O g).kind ≡ false → (h : ℕ) → test (O' h) ≡ test (O h)
-      test_same e h = go (cases_eq h g)
-        where
-          go : (h ≡ g) ⊎ (h ≡ g → ⊥) → test (O' h) ≡ test (O h)
-          go (inl q) = rw (dead h q, q, e) (sym (and_false (O g).living))
-          go (inr q) = rw (same h q)
+      test_same e h = upd_by (λ o. test o ≡ test (O h)) O g (over (O g)) h (λ q. rw (q, e) (sym (and_false (O g).living))) (λ _. refl)
 
       pub count_less : f (O g).kind ≡ true → count (λ h. test (O h)) w.many ≡ suc (count (λ h. test (O' h)) w.many)
       count_less e =
@@ -118,13 +111,13 @@ module _ (H : HeapRule) (R : RackRule) (w : World) (k : ℕ) (O : ℕ → Outlin
           omega arith
 
 pub zone_of_block : (kd : Kind) (p x n h : ℕ) → is_block kd ≡ true → Zone kd p x n h → Zone block p x n h
-zone_of_block globals p x n h e z = absurd (true≢false (sym e))
+zone_of_block globals p x n h e z = cc
 zone_of_block block p x n h e z = z
-zone_of_block frame p x n h e z = absurd (true≢false (sym e))
+zone_of_block frame p x n h e z = cc
 
 pub zone_of_frame : (kd : Kind) (p x n h : ℕ) → is_frame kd ≡ true → Zone kd p x n h → Zone frame p x n h
-zone_of_frame globals p x n h e z = absurd (true≢false (sym e))
-zone_of_frame block p x n h e z = absurd (true≢false (sym e))
+zone_of_frame globals p x n h e z = cc
+zone_of_frame block p x n h e z = cc
 zone_of_frame frame p x n h e z = z
 
 pub apart_starts : (x h y k : ℕ) → Apart x h y k → 8 ≤ h → 8 ≤ k → 1024 ≤ x → 1024 ≤ y → x - 1024 ≡ y - 1024 → ⊥

@@ -220,15 +220,12 @@ module _ (H : HeapRule) (R : RackRule) (P : Points H) (Q : RackPoints R) (w : Wo
             shift a h u v p (inl q) = inl (omega arith)
             shift a h u v p (inr q) = inr (omega arith)
 
-            some_none : {v : ℕ} → Some v ≡ None → ⊥
-            some_none h = let z : ◌≡◌ {A = ℕ} 0 1 = cc in omega arith
-
             go : (kd : Kind) → (O g).kind ≡ kd → Zone kd (w.of g).place (O g).start (O g).asked (O g).held → Apart (O g).start (O g).held start x.held
             go globals q z = inl (omega arith)
             go frame q z = inr (omega (arith, ((P.keeps s' sound).laid.fit x.start x.held has).inside))
             go block q z =
                 let old = (r.ties.blocks g l.0 (and_from _ _ l.1 (ap is_block q))).0 in
-                let ne : (O g).start - 1024 ≡ x.start → ⊥ = λ e. some_none (sym old ∙ (ap (H.held c.heap) e ∙ gr.new)) in
+                let ne : (O g).start - 1024 ≡ x.start → ⊥ = λ e. let v = sym old ∙ (ap (H.held c.heap) e ∙ gr.new) in cc in
                 let now = gr.adds ((O g).start - 1024) ∙ (upd_other (H.held c.heap) x.start (Some x.held) ((O g).start - 1024) ne ∙ old) in
                 shift _ _ _ _ z.2 ((P.keeps s' sound).laid.apart ((O g).start - 1024) (O g).held x.start x.held now has ne)
 

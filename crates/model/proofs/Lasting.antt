@@ -2,11 +2,11 @@
 use Rattle.std.proofs.Common.{◌≡◌, ℕ, ◌<◌, Bool, true, false, cond, eqb, [], ◌∷◌, ◌++◌, Some, None, Option, refl, ap, ◌∙◌, arith}
 use Rattle.std.proofs.lemmas.Bool.{ne_eqb}
 use Rattle.operations.specs.declared.code.Code.{Code}
-use Rattle.operations.specs.declared.code.Code.TheVariants.{Stop, Set, Copy, Add, Sub, Addi, Mul, Div, Less, Load, Store, Loadb, Storeb, Jump, Jzero, Call, Ret, Frame, Global, Grab, Release, Out}
+use Rattle.operations.specs.declared.code.Code.TheVariants.{Call, Ret, Grab, Release}
 use Rattle.heaps.specs.Rule.{Block}
 use Rattle.model.specs.Grants.{Outline, is_frame, over}
 use Rattle.model.specs.Sights.{Seen, seen, restarted}
-use Rattle.model.specs.Lives.{Lives, with_birth, youngest_frame, block_born, ended_by, changed, lives, Later, NeverAgain}
+use Rattle.model.specs.Lives.{Lives, with_birth, without, youngest_frame, block_born, ended_by, changed, lives, Later, NeverAgain}
 
 later_same : (l : Lives) → Later l l
 later_same l = record { more = omega arith; kind = λ g h. refl; start = λ g h. refl; asked = λ g h. refl; held = λ g h. refl; ended = λ g h e. e }
@@ -24,12 +24,9 @@ later_more a b c x y =
       ended = λ g h e. y.ended g (omega arith) (x.ended g h e);
     }
 
--- grants told of by another function, which ends some of them
+-- some of them end
 module _ (l : Lives) (test : ℕ → Bool) where
-  abbrev some_over : Lives
-  some_over = record { many = l.many; of = λ g. cond (test g) (over (l.of g)) (l.of g) }
-
-  later_over : Later l some_over
+  later_over : Later l (without l test)
   later_over = record {
     more = omega arith;
     kind = λ g h. (each (test g) (l.of g)).0;
@@ -73,28 +70,11 @@ later_ended None l = later_same l
 later_ended (Some g) l = later_over l (λ h. eqb h g)
 
 later_step : (c : Code) (e : Seen) (l : Lives) → Later l (changed c e l)
-later_step Stop e l = later_same l
-later_step Set e l = later_same l
-later_step Copy e l = later_same l
-later_step Add e l = later_same l
-later_step Sub e l = later_same l
-later_step Addi e l = later_same l
-later_step Mul e l = later_same l
-later_step Div e l = later_same l
-later_step Less e l = later_same l
-later_step Load e l = later_same l
-later_step Store e l = later_same l
-later_step Loadb e l = later_same l
-later_step Storeb e l = later_same l
-later_step Jump e l = later_same l
-later_step Jzero e l = later_same l
 later_step Call e l = later_if e.passed l _ (later_birth l _)
 later_step Ret e l = later_if e.passed l _ (later_over l (λ h. eqb h (youngest_frame l)))
-later_step Frame e l = later_same l
-later_step Global e l = later_same l
 later_step Grab e l = later_if e.keyed l _ (later_block e.answer e.asked l)
 later_step Release e l = later_if e.passed l _ (later_ended e.from l)
-later_step Out e l = later_same l
+later_step _ e l = later_same l
 
 pub never_again : NeverAgain
 never_again old [] = later_same (lives old)

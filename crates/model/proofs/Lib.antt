@@ -1,5 +1,6 @@
 pub mod Driving
 pub mod Sheeting
+pub mod Checked
 pub mod Views
 pub mod Counts
 pub mod OneKind

@@ -5,7 +5,7 @@ use Rattle.std.proofs.lemmas.Bool.{eq-eqb, ne_eqb, cases_eq}
 use Rattle.model.specs.Grants.{Outline, over, living_frame, latest, count, bit}
 use Rattle.model.specs.History.{Book, Grant, nth, outline, none, ended, enters, change, youngest}
 use Rattle.model.specs.Lives.{Lives, with_birth, with_end, open_frames, youngest_frame}
-use Rattle.model.proofs.Views.{upd, upd_same, upd_other, get_set, get_push}
+use Rattle.model.proofs.Views.{upd, upd_same, upd_other, upd_by, get_set, get_push}
 use Rattle.model.proofs.Counts.{count_suc, count_ext, count_upd}
 use Rattle.model.proofs.Counts.{latest_ext, latest_passes}
 
@@ -22,14 +22,12 @@ module _ {S : Type 0} (l : Lives) (b : Book S) (k : ℕ) (A : Same l b k) where
   pub same_born : (x : Grant) (o : Outline) → x.outline ≡ o → (j : ℕ) → bit (living_frame o) + k ≡ j → Same (with_birth l o) (enters b x) j
   same_born x o e j more = record {
     many = let m = A.many in let z = length_push b.grants x in omega arith;
-    of = λ g. go g (cases_eq g l.many);
+    of = λ g. upd_by (λ z. z ≡ outline (enters b x) g) l.of l.many o g
+        (λ q. sym (ap (λ (y : Grant). y.outline) (get_push b.grants x none g ∙ upd_same (λ i. nth b i) (length b.grants) x g (q ∙ A.many)) ∙ e))
+        (λ q. A.of g ∙ sym (ap (λ (y : Grant). y.outline) (get_push b.grants x none g ∙ upd_other (λ i. nth b i) (length b.grants) x g (λ z. q (z ∙ sym A.many)))));
     opened = counted ∙ more;
   }
     where
-      go : (g : ℕ) → (g ≡ l.many) ⊎ (g ≡ l.many → ⊥) → cond (eqb g l.many) o (l.of g) ≡ outline (enters b x) g
-      go g (inl q) = rw (eq-eqb g l.many q) (sym (ap (λ (y : Grant). y.outline) (get_push b.grants x none g ∙ upd_same (λ i. nth b i) (length b.grants) x g (q ∙ A.many)) ∙ e))
-      go g (inr q) = rw (ne_eqb g l.many q) (A.of g ∙ sym (ap (λ (y : Grant). y.outline) (get_push b.grants x none g ∙ upd_other (λ i. nth b i) (length b.grants) x g (λ z. q (z ∙ sym A.many)))))
-
       counted : count (λ g. living_frame (cond (eqb g l.many) o (l.of g))) (l.many + 1) ≡ bit (living_frame o) + k
       counted =
           let one : l.many + 1 ≡ suc l.many = omega arith in

@@ -1,24 +1,23 @@
 -- With every step, the book keeps what it holds by itself. Assumes nothing.
-use Rattle.std.proofs.Common.{◌≡◌, ℕ, zero, suc, ◌+◌, ◌-◌, ◌*◌, ◌%◌, ◌<◌, Bool, true, false, cond, eqb, ltb, ◌⊎◌, List, [], ◌∷◌, ◌++◌, length, Some, None, Option, sym, refl, ap, ◌∙◌, subst, inl, inr, arith, w64, of_z}
+use Rattle.std.proofs.Common.{◌≡◌, ℕ, zero, suc, ◌+◌, ◌-◌, ◌*◌, ◌%◌, ◌<◌, Bool, true, false, cond, eqb, ltb, ◌⊎◌, List, [], ◌∷◌, ◌++◌, length, Some, None, Option, is_ok, sym, refl, ap, ◌∙◌, subst, inl, inr, arith, w64, of_z}
 use mathlib.Core.Path.{fun_ext}
-use Rattle.faults.specs.declared.cause.Cause.{Cause}
 use Rattle.std.proofs.lemmas.List.{length-set, length_push, get_or_past}
 use Rattle.std.proofs.lemmas.Bool.{and_parts, eq-eqb, ne_eqb, cases_eq, true≢false}
 use Rattle.heaps.specs.Rule.{Block, HeapRule}
 use Rattle.operations.specs.declared.code.Code.{Code}
-use Rattle.operations.specs.declared.code.Code.TheVariants.{Stop, Set, Copy, Add, Sub, Addi, Mul, Div, Less, Load, Store, Loadb, Storeb, Jump, Jzero, Call, Ret, Frame, Global, Grab, Release, Out}
+use Rattle.operations.specs.declared.code.Code.TheVariants.{Div, Load, Store, Loadb, Storeb, Call, Ret, Frame, Grab, Release}
 use Rattle.operations.specs.declared.step.Step.{Step}
 use Rattle.heaps.specs.Points.{Points, Reached, after_take, after_give}
-use Rattle.model.specs.Sheet.{State, Named, wrap, word, tag, access, unless, got, grabbed, called, returned, released, framed, divided, sheet, act, close, leaves, depth}
+use Rattle.model.specs.Sheet.{State, Named, wrap, word, tag, access, got, grabbed, called, returned, released, framed, divided, sheet, act, close, leaves, depth}
 use Rattle.model.specs.Parts.{bytes}
 use Rattle.model.specs.Grants.{Kind, block, frame, is_block, is_frame, living_frame}
-use Rattle.model.specs.History.{Book, Grant, nth, outline, book, none, born, ended, enters, change, serve, youngest, room, taken, blocks}
+use Rattle.model.specs.History.{Book, Grant, ends, nth, outline, book, none, born, ended, enters, change, serve, youngest, room, taken, blocks, OfBook}
 use Rattle.model.specs.History
 use Rattle.model.specs.Sheet
-use Rattle.model.specs.Machine
-use Rattle.model.specs.Trail.{target, passing}
+use Rattle.model.specs.Trail.{target}
 use Rattle.model.specs.Sights.{Wrote, adds, logs, stores}
 use Rattle.model.proofs.Views.{upd, get_push}
+use Rattle.model.proofs.Checked.{accessed, freed}
 use Rattle.model.proofs.Access.{Passed, passed, written, nth_change}
 use Rattle.model.proofs.Telling.{listed, latest_low, latest_which, Sure, sure_heap, sure_end, sure_write, sure_born}
 use Rattle.model.proofs.OneKind.{frame_not_block}
@@ -64,8 +63,8 @@ module _ (H : HeapRule) (P : Points H) where
         go (inl q) = absurd (true≢false (let v : None ≡ Some h = rw (eq-eqb y x q) at was in cc))
         go (inr q) = ((let v : H.held s y ≡ Some h = rw (ne_eqb y x q) at was in v), q)
 
-    tells_release : (g x : ℕ) → (outline b g).living ≡ true → Tells l ((book H).release b g x).after
-    tells_release g x v = tells_change g (ended (nth b g)) l _ (listed b g v)
+    tells_release : (g : ℕ) → (outline b g).living ≡ true → Tells l (ends H b g)
+    tells_release g v = tells_change g (ended (nth b g)) l _ (listed b g v)
         (sure_end H l (λ h. nth b h) _ _ S g _ (after_give b.heap ((outline b g).start - 1024) S.sound)
         (λ y h e. let p = gives b.heap ((outline b g).start - 1024) y h S.sound e in (p.0, λ _ q. p.1 (omega arith))))
 
@@ -105,35 +104,20 @@ module _ (H : HeapRule) (P : Points H) where
         go (Some x) e = by_room x e (ltb (blocks b) 255)
 
   -- every operation
-  module _ (l : List Wrote) (m : State ℕ (Book H.State)) (S : Tells l m.store) where
+  module _ (l : List Wrote) (m : OfBook H) (S : Tells l m.store) where
     store_tells : (t : Option ℕ) (x v : ℕ) (u : Option ℕ) →
-        Tells (logs (bytes 8 v) (passing (access (book H) m t x 8 (λ g. Sheet.keep m ((book H).store m.store g x v u))).way) t x l) (access (book H) m t x 8 (λ g. Sheet.keep m ((book H).store m.store g x v u))).after.store
-    store_tells None x v u = S
-    store_tells (Some g) x v u = go ((book H).check m.store g x 8) refl
-      where
-        go : (r : Option Cause) → (book H).check m.store g x 8 ≡ r →
-            Tells (logs (bytes 8 v) (passing (unless r m (Sheet.keep m ((book H).store m.store g x v u))).way) (Some g) x l) (unless r m (Sheet.keep m ((book H).store m.store g x v u))).after.store
-        go None e = tells_write l m.store S g x (bytes 8 v) (u ∷ []) (passed (outline m.store g) x 8 e)
-        go (Some f) e = S
+        Tells (logs (bytes 8 v) (is_ok (access (book H) m t x 8 (λ g. Sheet.keep m ((book H).store m.store g x v u))).way) t x l) (access (book H) m t x 8 (λ g. Sheet.keep m ((book H).store m.store g x v u))).after.store
+    store_tells t x v u =
+        accessed (book H) m (λ t d. Tells (logs (bytes 8 v) (is_ok d.way) t x l) d.after.store) (λ _ _. S) t x 8 _ (λ g e. tells_write l m.store S g x (bytes 8 v) (u ∷ []) (passed (outline m.store g) x 8 e))
 
     storeb_tells : (t : Option ℕ) (x v : ℕ) →
-        Tells (logs (bytes 1 v) (passing (access (book H) m t x 1 (λ g. Sheet.keep m ((book H).storeb m.store g x v))).way) t x l) (access (book H) m t x 1 (λ g. Sheet.keep m ((book H).storeb m.store g x v))).after.store
-    storeb_tells None x v = S
-    storeb_tells (Some g) x v = go ((book H).check m.store g x 1) refl
-      where
-        go : (r : Option Cause) → (book H).check m.store g x 1 ≡ r →
-            Tells (logs (bytes 1 v) (passing (unless r m (Sheet.keep m ((book H).storeb m.store g x v))).way) (Some g) x l) (unless r m (Sheet.keep m ((book H).storeb m.store g x v))).after.store
-        go None e = tells_write l m.store S g x ((v % 256) ∷ []) [] (passed (outline m.store g) x 1 e)
-        go (Some f) e = S
+        Tells (logs (bytes 1 v) (is_ok (access (book H) m t x 1 (λ g. Sheet.keep m ((book H).storeb m.store g x v))).way) t x l) (access (book H) m t x 1 (λ g. Sheet.keep m ((book H).storeb m.store g x v))).after.store
+    storeb_tells t x v =
+        accessed (book H) m (λ t d. Tells (logs (bytes 1 v) (is_ok d.way) t x l) d.after.store) (λ _ _. S) t x 1 _ (λ g e. tells_write l m.store S g x ((v % 256) ∷ []) [] (passed (outline m.store g) x 1 e))
 
     -- a load changes no store
-    load_tells : (t : Option ℕ) (x n : ℕ) (f : ℕ → State ℕ (Book H.State)) → ((g : ℕ) → Tells l (f g).store) → Tells l (access (book H) m t x n f).after.store
-    load_tells None x n f k = S
-    load_tells (Some g) x n f k = go ((book H).check m.store g x n)
-      where
-        go : (r : Option Cause) → Tells l (unless r m (f g)).after.store
-        go None = k g
-        go (Some z) = S
+    load_tells : (t : Option ℕ) (x n : ℕ) (f : ℕ → OfBook H) → ((g : ℕ) → Tells l (f g).store) → Tells l (access (book H) m t x n f).after.store
+    load_tells t x n f k = accessed (book H) m (λ _ d. Tells l d.after.store) (λ _ _. S) t x n f (λ g _. k g)
 
     divided_tells : (x y : ℕ) (z : Bool) (d : ℕ) → Tells l (divided m x y z d).after.store
     divided_tells x y true d = S
@@ -161,44 +145,27 @@ module _ (H : HeapRule) (P : Points H) where
         go (Some y) t = t
 
     released_tells : (t : Option ℕ) (x : ℕ) → Tells l (released (book H) m t x).after.store
-    released_tells None x = S
-    released_tells (Some g) x = go (outline m.store g).living (is_block (outline m.store g).kind) refl
-      where
-        go : (u v : Bool) → (outline m.store g).living ≡ u → Tells l (unless (Machine.refuses u v) m (Sheet.keep m ((book H).release m.store g x).after)).after.store
-        go false v e = S
-        go true false e = S
-        go true true e = tells_release l m.store S g x e
+    released_tells t x = freed H m (λ _ d. Tells l d.after.store) (λ _ _. S) t x (λ g e _. tells_release l m.store S g e)
 
-    sheet_tells : (o : Code) (c d a b n : ℕ) → Tells (logs (bytes (stores o) (word m b)) (passing (sheet (book H) o c d a b n m).way) (tag m a) (wrap (word m a + n)) l) (sheet (book H) o c d a b n m).after.store
-    sheet_tells Stop c d a b n = S
-    sheet_tells Set c d a b n = S
-    sheet_tells Copy c d a b n = S
-    sheet_tells Add c d a b n = S
-    sheet_tells Sub c d a b n = S
-    sheet_tells Addi c d a b n = S
-    sheet_tells Mul c d a b n = S
+    sheet_tells : (o : Code) (c d a b n : ℕ) → Tells (logs (bytes (stores o) (word m b)) (is_ok (sheet (book H) o c d a b n m).way) (tag m a) (wrap (word m a + n)) l) (sheet (book H) o c d a b n m).after.store
     sheet_tells Div c d a b n = divided_tells (word m a) (word m b) (eqb (word m b) 0) d
-    sheet_tells Less c d a b n = S
     sheet_tells Load c d a b n = load_tells (tag m a) (wrap (word m a + n)) 8 _ (λ g. S)
     sheet_tells Store c d a b n = store_tells (tag m a) (wrap (word m a + n)) (word m b) (tag m b)
     sheet_tells Loadb c d a b n = load_tells (tag m a) (wrap (word m a + n)) 1 _ (λ g. S)
     sheet_tells Storeb c d a b n = storeb_tells (tag m a) (wrap (word m a + n)) (word m b)
-    sheet_tells Jump c d a b n = S
-    sheet_tells Jzero c d a b n = S
     sheet_tells Call c d a b n = called_tells (ltb (depth m) 64) ((book H).keys m.store) c n
     sheet_tells Ret c d a b n = returned_tells m.common.returns
     sheet_tells Frame c d a b n = framed_tells m.common.returns d n
-    sheet_tells Global c d a b n = S
     sheet_tells Grab c d a b n = grabbed_tells ((book H).keys m.store) d (word m a)
     sheet_tells Release c d a b n = released_tells (tag m a) (word m a)
-    sheet_tells Out c d a b n = S
+    sheet_tells _ c d a b n = S
 
-    pub act_tells : (c : ℕ) (o : Step) → Tells (logs (bytes (stores o.code) (word m o.b)) (passing (act (book H) c o m).way) (tag m o.a) (target m o) l) (act (book H) c o m).after.store
+    pub act_tells : (c : ℕ) (o : Step) → Tells (logs (bytes (stores o.code) (word m o.b)) (is_ok (act (book H) c o m).way) (tag m o.a) (target m o) l) (act (book H) c o m).after.store
     act_tells c o = sheet_tells o.code c o.d o.a o.b (of_z w64 o.n)
 
   leaves_tell : (l : List Wrote) (k : ℕ) (b : Book H.State) → Tells l b → Tells l (leaves (book H) k b)
   leaves_tell l zero b S = S
   leaves_tell l (suc k) b S = leaves_tell l k ((book H).leave b k) (tells_leave l b S k)
 
-  pub close_tells : (l : List Wrote) (m : State ℕ (Book H.State)) → Tells l m.store → Tells l (close (book H) m).store
+  pub close_tells : (l : List Wrote) (m : OfBook H) → Tells l m.store → Tells l (close (book H) m).store
   close_tells l m S = leaves_tell l (depth m) m.store S

@@ -1,16 +1,21 @@
 -- Release, ret and start: both sides end a grant alike. Assumes nothing.
-use Rattle.std.proofs.Common.{◌≡◌, ℕ, suc, ◌+◌, ◌-◌, ◌*◌, ◌<◌, Bool, true, false, ◌⊎◌, List, length, get_or, set, Some, None, Option, sym, refl, ap, ◌∙◌, subst, inl, inr, arith}
+use Rattle.std.proofs.Common.{◌≡◌, ℕ, suc, ◌+◌, ◌-◌, ◌*◌, ◌<◌, Bool, true, false, ◌⊎◌, List, length, get_or, set, Some, None, Option, sym, refl, ap, ◌∙◌, subst, inl, inr, arith, Ok, Err, Result, leb, ◌&&◌}
 use Rattle.std.proofs.lemmas.List.{length-set}
-use Rattle.std.proofs.lemmas.Bool.{and_parts, and_from, cases_eq, true≢false, cases_Bool}
+use Rattle.std.proofs.lemmas.Bool.{and_parts, and_from, cases_Bool}
 use Rattle.heaps.specs.Rule.{HeapRule}
 use Rattle.heaps.specs.Points.{Points, after_give}
 use Rattle.racks.specs.Rule.{RackRule}
 use Rattle.racks.specs.Points.{RackPoints, after_put}
 use Rattle.model.specs.declared.sidecar.Sidecar.{Sidecar}
-use Rattle.model.specs.Machine.{Core, side, machine, refuses}
+use Rattle.model.specs.Machine.{Core, side, machine, refuses, holds}
+use Rattle.model.specs.Machine
+use Rattle.model.specs.History
+use Rattle.faults.specs.declared.cause.Cause.{Cause}
+use Rattle.std.specs.Result.{result_and}
+use Rattle.model.proofs.Sheeting.{Outcomes}
 use Rattle.model.specs.Grants.{over, Outline, block, is_block, is_frame, living_block, living_frame, count, latest}
 use Rattle.model.specs.History.{Book, Grant, nth, outline, book, change, ended, youngest}
-use Rattle.model.proofs.Views.{upd, upd_same, upd_other}
+use Rattle.model.proofs.Views.{upd, upd_other, upd_by}
 use Rattle.model.proofs.Counts.{count_ext, count_upd, latest_is}
 use Rattle.model.proofs.Relation.{World, Alike, Zone, Kept, Stored, Live, Ties, Rel}
 use Rattle.model.proofs.Access.{nth_change, outline_change}
@@ -19,13 +24,11 @@ use Rattle.model.proofs.OneKind.{block_not_frame, frame_not_block}
 
 -- what an ended grant leaves of memory is of no concern
 stored_end : (w : World) (G : ℕ → Grant) (memory : List ℕ) (shadow : List (Option Sidecar)) (g : ℕ) → Stored w G memory shadow → Stored w (upd G g (ended (G g))) memory shadow
-stored_end w G memory shadow g st = record { room = st.room; words = st.words; kept = λ h m live. go h m live (cases_eq h g) }
-  where
-    go : (h : ℕ) → h < w.many → (upd G g (ended (G g)) h).outline.living ≡ true → (h ≡ g) ⊎ (h ≡ g → ⊥) → Kept w (upd G g (ended (G g)) h) memory shadow
-    go h m live (inl e) = absurd (true≢false (sym live ∙ ap (λ (y : Grant). y.outline.living) (upd_same G g (ended (G g)) h e)))
-    go h m live (inr e) =
-        let q : (G h).outline.living ≡ true = rw (upd_other G g (ended (G g)) h e) at live in
-        rw (upd_other G g (ended (G g)) h e) (st.kept h m q)
+stored_end w G memory shadow g st = record {
+  room = st.room;
+  words = st.words;
+  kept = λ h m. upd_by (λ y. y.outline.living ≡ true → Kept w y memory shadow) G g (ended (G g)) h (λ _ live. cc) (λ _ live. st.kept h m live);
+}
 
 module _ (H : HeapRule) (R : RackRule) (P : Points H) (Q : RackPoints R) (w : World) (k : ℕ) (O : ℕ → Outline) (locks : List ℕ) (s : H.State) (r : R.State) where
   ties_release : (T : Ties H R w k O locks s r) (g : ℕ) → Live w O g → is_block (O g).kind ≡ true →
@@ -136,19 +139,19 @@ module _ (H : HeapRule) (R : RackRule) (P : Points H) (Q : RackPoints R) (w : Wo
           let ne : z.0 ≡ g → ⊥ = λ q. let v : (w.of z.0).place ≡ (w.of g).place = ap (λ i. (w.of i).place) q in omega arith in
           (z.0, z.1, test_still H R w (suc k) O locks s r T g l is_frame z.0 ne z.2, z.3)
 
+two : (x y : Bool) → refuses x y ≡ Ok tt → (x ≡ true) × (y ≡ true)
+two false y h = (cc, cc)
+two true false h = (cc, cc)
+two true true h = (refl, refl)
+
 module _ (H : HeapRule) (R : RackRule) (P : Points H) (Q : RackPoints R) (w : World) (k : ℕ) (c : Core H.State R.State) (b : Book H.State) where
-  pub release_same : Rel H R w k c b → (s : Sidecar) (g x : ℕ) → Alike w s g → ((machine H R).release c s x).fault ≡ ((book H).release b g x).fault
-  release_same r s g x a =
+  release_same : Rel H R w k c b → (s : Sidecar) (g : ℕ) → Alike w s g → refuses (holds c s) (leb 1 s.place && leb s.place 255) ≡ refuses (outline b g).living (is_block (outline b g).kind)
+  release_same r s g a =
       let f = r.ties.fits g a.0 in
       rw (a.1, f.key, r.ties.locked g a.0, zone_block (outline b g).kind (w.of g).place _ _ _ f.zone)
 
-  two : (x y : Bool) → refuses x y ≡ None → (x ≡ true) × (y ≡ true)
-  two false y h = (cc, cc)
-  two true false h = (cc, cc)
-  two true true h = (refl, refl)
-
-  pub release_like : Rel H R w k c b → (s : Sidecar) (g x : ℕ) → Alike w s g → ((book H).release b g x).fault ≡ None → Rel H R w k ((machine H R).release c s x).after ((book H).release b g x).after
-  release_like r s g x a e =
+  ends_like : Rel H R w k c b → (s : Sidecar) (g : ℕ) → Alike w s g → refuses (outline b g).living (is_block (outline b g).kind) ≡ Ok tt → Rel H R w k (Machine.ends H R c s) (History.ends H b g)
+  ends_like r s g a e =
       let f = r.ties.fits g a.0 in
       let t = two (outline b g).living (is_block (outline b g).kind) e in
       let l : g < length b.grants = omega (arith, a.0, r.many) in
@@ -163,6 +166,13 @@ module _ (H : HeapRule) (R : RackRule) (P : Points H) (Q : RackPoints R) (w : Wo
         ties = rw (base, a.1) (subst (λ (o : ℕ → Outline). Ties H R w k o (set c.locks (w.of g).place 0) (H.give c.heap ((outline b g).start - 1024)).after (R.put c.rack (w.of g).place).after) (sym (outline_change b g l y)) T);
         stored = subst (λ (o : ℕ → Grant). Stored w o c.memory c.shadow) (sym (nth_change b g l y)) (stored_end w (λ h. nth b h) c.memory c.shadow g r.stored);
       }
+
+  pub release_like : Rel H R w k c b → (s : Sidecar) (g x : ℕ) → Alike w s g → Outcomes (Rel H R w k) ((machine H R).release c s x) ((book H).release b g x)
+  release_like r s g x a = rw (release_same r s g a) (go (refuses (outline b g).living (is_block (outline b g).kind)) (ends_like r s g a))
+    where
+      go : (q : Result Unit Cause) → (q ≡ Ok tt → Rel H R w k (Machine.ends H R c s) (History.ends H b g)) → Outcomes (Rel H R w k) (result_and q (Ok (Machine.ends H R c s))) (result_and q (Ok (History.ends H b g)))
+      go (Ok u) h = h refl
+      go (Err f) h = refl
 
   module _ (r : Rel H R w (suc k) c b) where
     top : (g : ℕ) × (g < w.many) × (living_frame (outline b g) ≡ true) × ((w.of g).place ≡ 256 + k)

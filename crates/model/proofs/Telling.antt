@@ -8,7 +8,7 @@ use Rattle.model.specs.Parts.{put}
 use Rattle.model.specs.Grants.{Kind, is_block, living_block, latest}
 use Rattle.model.specs.History.{Book, Grant, outline, none, born, ended}
 use Rattle.model.specs.Sights.{Wrote, newest, adds}
-use Rattle.model.proofs.Views.{upd, upd_same, upd_other, length_put}
+use Rattle.model.proofs.Views.{upd, upd_same, upd_other, upd_by, length_put}
 use Rattle.model.proofs.Access.{Passed, written}
 
 -- the log against one list of bytes
@@ -71,11 +71,7 @@ module _ (H : HeapRule) where
 
   -- one grant changes, and the field F of it does not
   same_field : {X : Type 0} (F : Grant → X) (G : ℕ → Grant) (g : ℕ) (y : Grant) → F y ≡ F (G g) → (h : ℕ) → F (upd G g y h) ≡ F (G h)
-  same_field F G g y e h = go (cases_eq h g)
-    where
-      go : (h ≡ g) ⊎ (h ≡ g → ⊥) → F (upd G g y h) ≡ F (G h)
-      go (inl q) = ap F (upd_same G g y h q) ∙ (e ∙ ap (λ i. F (G i)) (sym q))
-      go (inr q) = ap F (upd_other G g y h q)
+  same_field F G g y e h = upd_by (λ z. F z ≡ F (G h)) G g y h (λ q. e ∙ ap (λ i. F (G i)) (sym q)) (λ _. refl)
 
   module _ (l : List Wrote) (G : ℕ → Grant) (n : ℕ) (s : H.State) (S : Sure l G n s) where
     pub sure_heap : (s' : H.State) → Reached H s' → ((x h : ℕ) → H.held s' x ≡ Some h → H.held s x ≡ Some h) → Sure l G n s'
@@ -106,8 +102,8 @@ module _ (H : HeapRule) where
     sure_write g x vs ds p = record {
       some = S.some;
       first = same_field (λ y. is_block y.outline.kind) G g (written (G g) x vs ds) refl 0 ∙ S.first;
-      sized = λ h. sized h (cases_eq h g);
-      tells = λ h i. tells h i (cases_eq h g);
+      sized = λ h. upd_by (λ y. length y.bytes ≡ y.outline.asked) G g (written (G g) x vs ds) h (λ _. length_put (G g).bytes (x - (G g).outline.start) vs ∙ S.sized g) (λ _. S.sized h);
+      tells = λ h i. upd_by (λ y. get_or y.bytes i 0 ≡ newest (adds g x vs l) h (y.outline.start + i)) G g (written (G g) x vs ds) h (λ q. rw q (there i)) (λ q. rw (adds_other g x vs l h ((G h).outline.start + i) q) (S.tells h i));
       sound = S.sound;
       owned = λ y h e. let o = S.owned y h e in (
         o.0,
@@ -117,48 +113,37 @@ module _ (H : HeapRule) where
       );
     }
       where
-        sized : (h : ℕ) → (h ≡ g) ⊎ (h ≡ g → ⊥) → length (upd G g (written (G g) x vs ds) h).bytes ≡ (upd G g (written (G g) x vs ds) h).outline.asked
-        sized h (inl q) = rw (upd_same G g (written (G g) x vs ds) h q) (length_put (G g).bytes (x - (G g).outline.start) vs ∙ S.sized g)
-        sized h (inr q) = rw (upd_other G g (written (G g) x vs ds) h q) (S.sized h)
-
-        tells : (h i : ℕ) → (h ≡ g) ⊎ (h ≡ g → ⊥) → get_or (upd G g (written (G g) x vs ds) h).bytes i 0 ≡ newest (adds g x vs l) h ((upd G g (written (G g) x vs ds) h).outline.start + i)
-        tells h i (inl q) =
+        there : (i : ℕ) → get_or (put (G g).bytes (x - (G g).outline.start) vs) i 0 ≡ newest (adds g x vs l) g ((G g).outline.start + i)
+        there i =
             let low = p.low in
             let high = p.high in
             let z = S.sized g in
             let e : (G g).outline.start + (x - (G g).outline.start) ≡ x = omega arith in
             let t = put_tells g (G g).outline.start vs (G g).bytes (x - (G g).outline.start) l (omega arith) (λ j. S.tells g j) i in
-            let t' : get_or (put (G g).bytes (x - (G g).outline.start) vs) i 0 ≡ newest (adds g x vs l) g ((G g).outline.start + i) = rw e at t in
-            rw (upd_same G g (written (G g) x vs ds) h q, q) t'
-        tells h i (inr q) = rw (upd_other G g (written (G g) x vs ds) h q, adds_other g x vs l h ((G h).outline.start + i) q) (S.tells h i)
+            rw e at t
 
     pub sure_born : (k : Kind) (x a z : ℕ) (s' : H.State) → G n ≡ none → Reached H s' → ((y h : ℕ) → H.held s' y ≡ Some h → (H.held s y ≡ Some h) ⊎ ((is_block k ≡ true) × (x ≡ 1024 + y) × (z ≡ h))) →
         Sure l (upd G n (born k x a z)) (suc n) s'
     sure_born k x a z s' e sound was = record {
       some = omega arith;
       first = let q = S.some in ap (λ (u : Grant). is_block u.outline.kind) (upd_other G n (born k x a z) 0 (λ v. omega arith)) ∙ S.first;
-      sized = λ h. sized h (cases_eq h n);
-      tells = λ h i. tells h i (cases_eq h n);
+      sized = λ h. upd_by (λ y. length y.bytes ≡ y.outline.asked) G n (born k x a z) h (λ _. length-replicate a 0) (λ _. S.sized h);
+      tells = λ h i. upd_by (λ y. get_or y.bytes i 0 ≡ newest l h (y.outline.start + i)) G n (born k x a z) h (λ q. rw q (fresh i)) (λ _. S.tells h i);
       sound = sound;
       owned = λ y h v. owned y h (was y h v);
     }
       where
-        sized : (h : ℕ) → (h ≡ n) ⊎ (h ≡ n → ⊥) → length (upd G n (born k x a z) h).bytes ≡ (upd G n (born k x a z) h).outline.asked
-        sized h (inl q) = rw (upd_same G n (born k x a z) h q) (length-replicate a 0)
-        sized h (inr q) = rw (upd_other G n (born k x a z) h q) (S.sized h)
-
         zeros : (i : ℕ) → (i < a) ⊎ (a ≤ i) → get_or {A = ℕ} (replicate a 0) i 0 ≡ 0
         zeros i (inl q) = get_or-replicate a i 0 0 q
         zeros i (inr q) = get_or_past (replicate a 0) i 0 (rw (length-replicate {A = ℕ} a 0) q)
 
-        tells : (h i : ℕ) → (h ≡ n) ⊎ (h ≡ n → ⊥) → get_or (upd G n (born k x a z) h).bytes i 0 ≡ newest l h ((upd G n (born k x a z) h).outline.start + i)
-        tells h i (inl q) =
+        fresh : (i : ℕ) → get_or (replicate a 0) i 0 ≡ newest l n (x + i)
+        fresh i =
             let t = S.tells n (x + i) in
             let z0 : 0 + (x + i) ≡ x + i = omega arith in
             let t₁ : 0 ≡ newest l n (0 + (x + i)) = rw e at t in
             let t' : 0 ≡ newest l n (x + i) = rw z0 at t₁ in
-            rw (upd_same G n (born k x a z) h q, q, zeros i (cases_lt i a)) t'
-        tells h i (inr q) = rw (upd_other G n (born k x a z) h q) (S.tells h i)
+            zeros i (cases_lt i a) ∙ t'
 
         owned : (y h : ℕ) → (H.held s y ≡ Some h) ⊎ ((is_block k ≡ true) × (x ≡ 1024 + y) × (z ≡ h)) → Owner (upd G n (born k x a z)) y h
         owned y h (inr v) =

@@ -1,45 +1,41 @@
--- Two players whose acts lead the same way leave trails that match place by place, and what they keep holds at each place. Assumes nothing.
+-- Two players whose acts lead the same way give the same answers to every history and leave trails that match place by place,
+-- and what they keep holds at each place. Assumes nothing.
 -- Q says what they keep, by what was attempted before, the newest first.
-use Rattle.std.proofs.Common.{◌≡◌, ℕ, zero, suc, ◌+◌, Bool, true, false, ltb, List, [], ◌∷◌, ◌++◌, map, length, get_or, Some, None, Option, sym, refl, subst}
-use Rattle.std.proofs.lemmas.Bool.{true≢false}
+use Rattle.std.proofs.Common.{◌≡◌, ℕ, zero, suc, ◌+◌, Bool, true, false, ltb, List, [], ◌∷◌, ◌++◌, map, length, reverse, take, slice_get, get_or, Some, None, Option, Ok, Result, sym, refl, ap, ◌∙◌, subst}
+use Rattle.faults.specs.declared.cause.Cause.{Cause}
 use Rattle.operations.specs.declared.step.Step.{Step}
+use mathlib.Core.List.{reverse_aux}
+use Rattle.std.proofs.lemmas.List.{take-map, reverse-append}
 use Rattle.operations.specs.declared.operation.Operation.{Operation}
 use Rattle.operations.specs.Records.{step_of}
 use Rattle.operations.specs.Sound.{stop}
-use Rattle.model.specs.Sheet.{Did}
+use Rattle.model.specs.Sheet.{Player}
 use Rattle.model.specs.declared.way.Way.{Way}
-use Rattle.model.specs.declared.way.Way.TheVariants.{Faulted, Next, Jumped, Stopped, Answered}
+use Rattle.model.specs.declared.way.Way.TheVariants.{Next, Jumped}
 use Rattle.model.specs.declared.phase.Phase.{Phase}
 use Rattle.model.specs.declared.phase.Phase.TheVariants.{Idle, Going, Halted}
-use Rattle.model.specs.declared.answer.Answer.{Answer}
-use Rattle.model.specs.Driving.{Driven, Turn, HostCall, start, run, press, turn, after_way, tried, runs, begun, run_in, pressing, handle, extra, barred, pressed}
-use Rattle.model.specs.Trail.{Met, met, Entry, acted, began, follows, attempts, trail_of_run, trail_in, trail_of_press, trail_of_record, begins_at, entries_of, trail, at, back, whole}
+use Rattle.model.specs.Driving.{Driven, Reply, Turn, HostCall, start, run, press, turn, after_way, tried, runs, begun, run_in, pressing, handle, answers, leads_to, extra, barred, pressed}
+use Rattle.model.specs.Trail.{Met, met, Entry, acted, began, follows, attempts, trail_of_run, trail_in, trail_of_press, trail_of_record, begins_at, entries_of, trail}
 use Rattle.model.proofs.Driving.{Paired, Level, Matches}
 
+onto_map : {X Y : Type 0} (f : X → Y) (xs ys : List X) → map f (reverse_aux xs ys) ≡ reverse_aux (map f xs) (map f ys)
+onto_map f [] ys = refl
+onto_map f (x ∷ xs) ys = onto_map f xs (x ∷ ys)
+
 -- what is seen of the first i entries, by what is seen of all
-pub back_map : {X Y : Type 0} (f : X → Y) (i : ℕ) (xs ys : List X) → map f (back i xs ys) ≡ back i (map f xs) (map f ys)
-back_map f zero xs ys = refl
-back_map f (suc i) [] ys = refl
-back_map f (suc i) (x ∷ xs) ys = back_map f i xs (x ∷ ys)
+pub seen_before : {X Y : Type 0} (f : X → Y) (i : ℕ) (xs : List X) → map f (reverse (take i xs)) ≡ reverse (take i (map f xs))
+seen_before f i xs = onto_map f (take i xs) [] ∙ ap reverse (sym (take-map f i xs))
 
 -- one entry more, at the end
-back_push : {X : Type 0} (xs ys : List X) (e : X) → back (length (xs ++ (e ∷ []))) (xs ++ (e ∷ [])) ys ≡ e ∷ back (length xs) xs ys
-back_push [] ys e = refl
-back_push (x ∷ xs) ys e = back_push xs (x ∷ ys) e
+pub reverse_push : {X : Type 0} (xs : List X) (e : X) → reverse (xs ++ (e ∷ [])) ≡ e ∷ reverse xs
+reverse_push xs e = reverse-append xs (e ∷ [])
 
-pub whole_push : {X : Type 0} (xs : List X) (e : X) → whole (xs ++ (e ∷ [])) ≡ e ∷ whole xs
-whole_push xs e = back_push xs [] e
-
-abbrev pub onto : {X : Type 0} → List X → List X → List X
-onto [] p = p
-onto (x ∷ xs) p = onto xs (x ∷ p)
-
-module _ {M₁ M₂ : Type 0} (act₁ : ℕ → Step → M₁ → Did M₁) (close₁ : M₁ → M₁) (act₂ : ℕ → Step → M₂ → Did M₂) (close₂ : M₂ → M₂) (Q : List (Entry M₂) → M₁ → M₂ → Type 0) where
+module _ {M₁ M₂ : Type 0} (X₁ : Player M₁) (X₂ : Player M₂) (Q : List (Entry M₂) → M₁ → M₂ → Type 0) where
   pub record Place (p : List (Entry M₂)) (e₁ : Met M₁) (e₂ : Met M₂) : Type 0 where
     pub counter : ℕ
     pub step : Step
-    pub first : e₁ ≡ met act₁ close₁ counter step e₁.before
-    pub second : e₂ ≡ met act₂ close₂ counter step e₂.before
+    pub first : e₁ ≡ met X₁ counter step e₁.before
+    pub second : e₂ ≡ met X₂ counter step e₂.before
     pub kept : Q p e₁.before e₂.before
 
   abbrev pub Tracks : List (Entry M₂) → List (Entry M₁) → List (Entry M₂) → Type 0
@@ -51,7 +47,7 @@ module _ {M₁ M₂ : Type 0} (act₁ : ℕ → Step → M₁ → Did M₁) (clo
   Tracks p (began ∷ t₁) (acted e₂ ∷ t₂) = ⊥
   Tracks p (began ∷ t₁) (began ∷ t₂) = Tracks (began ∷ p) t₁ t₂
 
-  pub tracks_append : (p : List (Entry M₂)) (a₁ b₁ : List (Entry M₁)) (a₂ b₂ : List (Entry M₂)) → Tracks p a₁ a₂ → Tracks (onto a₂ p) b₁ b₂ → Tracks p (a₁ ++ b₁) (a₂ ++ b₂)
+  pub tracks_append : (p : List (Entry M₂)) (a₁ b₁ : List (Entry M₁)) (a₂ b₂ : List (Entry M₂)) → Tracks p a₁ a₂ → Tracks (reverse_aux a₂ p) b₁ b₂ → Tracks p (a₁ ++ b₁) (a₂ ++ b₂)
   tracks_append p [] b₁ [] b₂ h k = k
   tracks_append p [] b₁ (e₂ ∷ a₂) b₂ h k = absurd h
   tracks_append p (e₁ ∷ a₁) b₁ [] b₂ h k = absurd h
@@ -60,13 +56,13 @@ module _ {M₁ M₂ : Type 0} (act₁ : ℕ → Step → M₁ → Did M₁) (clo
   tracks_append p (began ∷ a₁) b₁ (acted e₂ ∷ a₂) b₂ h k = absurd h
   tracks_append p (began ∷ a₁) b₁ (began ∷ a₂) b₂ h k = tracks_append (began ∷ p) a₁ b₁ a₂ b₂ h k
 
-  pub tracks_at : (i : ℕ) (p : List (Entry M₂)) (t₁ : List (Entry M₁)) (t₂ : List (Entry M₂)) (e₁ : Met M₁) → Tracks p t₁ t₂ → at t₁ i ≡ Some (acted e₁) → (e₂ : Met M₂) × Place (back i t₂ p) e₁ e₂
-  tracks_at i p [] t₂ e₁ h k = absurd (true≢false cc)
+  pub tracks_at : (i : ℕ) (p : List (Entry M₂)) (t₁ : List (Entry M₁)) (t₂ : List (Entry M₂)) (e₁ : Met M₁) → Tracks p t₁ t₂ → slice_get t₁ i ≡ Some (acted e₁) → (e₂ : Met M₂) × Place (reverse_aux (take i t₂) p) e₁ e₂
+  tracks_at i p [] t₂ e₁ h k = cc
   tracks_at i p (x₁ ∷ t₁) [] e₁ h k = absurd h
   tracks_at zero p (acted x₁ ∷ t₁) (acted x₂ ∷ t₂) e₁ h k = let a : x₁ ≡ e₁ = cc in (x₂, subst (λ y. Place p y x₂) a h.0)
   tracks_at zero p (acted x₁ ∷ t₁) (began ∷ t₂) e₁ h k = absurd h
   tracks_at zero p (began ∷ t₁) (acted x₂ ∷ t₂) e₁ h k = absurd h
-  tracks_at zero p (began ∷ t₁) (began ∷ t₂) e₁ h k = absurd (true≢false cc)
+  tracks_at zero p (began ∷ t₁) (began ∷ t₂) e₁ h k = cc
   tracks_at (suc i) p (acted x₁ ∷ t₁) (acted x₂ ∷ t₂) e₁ h k = tracks_at i (acted x₂ ∷ p) t₁ t₂ e₁ h.1 k
   tracks_at (suc i) p (acted x₁ ∷ t₁) (began ∷ t₂) e₁ h k = absurd h
   tracks_at (suc i) p (began ∷ t₁) (acted x₂ ∷ t₂) e₁ h k = absurd h
@@ -86,79 +82,88 @@ module _ {M₁ M₂ : Type 0} (act₁ : ℕ → Step → M₁ → Did M₁) (clo
   -- a call: its two trails, and its two turns
   pub record Called (p : List (Entry M₂)) (t₁ : List (Entry M₁)) (t₂ : List (Entry M₂)) (u₁ : Turn M₁) (u₂ : Turn M₂) : Type 0 where
     pub tracks : Tracks p t₁ t₂
-    pub level : Level (Q (onto t₂ p)) u₁ u₂
+    pub level : Level (Q (reverse_aux t₂ p)) u₁ u₂
 
-  module _ (acts : (p : List (Entry M₂)) (c : ℕ) (o : Step) (m₁ : M₁) (m₂ : M₂) → Q p m₁ m₂ → Matches (Q (acted (met act₂ close₂ c o m₂) ∷ p)) (act₁ c o m₁) (act₂ c o m₂))
-      (closes : (p : List (Entry M₂)) (m₁ : M₁) (m₂ : M₂) → Q p m₁ m₂ → Q (began ∷ p) (close₁ m₁) (close₂ m₂)) where
-    ends : (p : List (Entry M₂)) (r : Answer) (c : ℕ) (f : Phase) (m₁ : M₁) (m₂ : M₂) → Q p m₁ m₂ → Called p [] [] (turn act₁ close₁ r c f m₁) (turn act₂ close₂ r c f m₂)
+  module _ (acts : (p : List (Entry M₂)) (c : ℕ) (o : Step) (m₁ : M₁) (m₂ : M₂) → Q p m₁ m₂ → Matches (Q (acted (met X₂ c o m₂) ∷ p)) (X₁.act c o m₁) (X₂.act c o m₂))
+      (closes : (p : List (Entry M₂)) (m₁ : M₁) (m₂ : M₂) → Q p m₁ m₂ → Q (began ∷ p) (X₁.close m₁) (X₂.close m₂)) where
+    ends : (p : List (Entry M₂)) (r : Reply) (c : ℕ) (f : Phase) (m₁ : M₁) (m₂ : M₂) → Q p m₁ m₂ → Called p [] [] (turn X₁ r c f m₁) (turn X₂ r c f m₂)
     ends p r c f m₁ m₂ h = record { tracks = tt; level = record { answer = refl; after = record { counter = refl; phase = refl; player = h } } }
 
     Rests : List (Entry M₂) → (ℕ → M₁ → List (Met M₁)) → (ℕ → M₂ → List (Met M₂)) → (ℕ → M₁ → Turn M₁) → (ℕ → M₂ → Turn M₂) → Type 0
     Rests p t₁ t₂ f₁ f₂ = (c : ℕ) (m₁ : M₁) (m₂ : M₂) → Q p m₁ m₂ → Called p (map acted (t₁ c m₁)) (map acted (t₂ c m₂)) (f₁ c m₁) (f₂ c m₂)
 
-    way_tracks : (p : List (Entry M₂)) (w : Way) (o : Step) (c n e : ℕ) (m₁ : M₁) (m₂ : M₂) (t₁ : ℕ → M₁ → List (Met M₁)) (t₂ : ℕ → M₂ → List (Met M₂)) (f₁ : ℕ → M₁ → Turn M₁) (f₂ : ℕ → M₂ → Turn M₂) → Q p m₁ m₂ → Rests p t₁ t₂ f₁ f₂ →
-        Called p (map acted (follows act₁ close₁ w c (λ c'. t₁ c' m₁))) (map acted (follows act₂ close₂ w c (λ c'. t₂ c' m₂))) (after_way act₁ close₁ w o c n e m₁ f₁) (after_way act₂ close₂ w o c n e m₂ f₂)
+    way_tracks : (p : List (Entry M₂)) (w : Result Way Cause) (o : Step) (c n e : ℕ) (m₁ : M₁) (m₂ : M₂) (t₁ : ℕ → M₁ → List (Met M₁)) (t₂ : ℕ → M₂ → List (Met M₂)) (f₁ : ℕ → M₁ → Turn M₁) (f₂ : ℕ → M₂ → Turn M₂) → Q p m₁ m₂ → Rests p t₁ t₂ f₁ f₂ →
+        Called p (map acted (follows X₁ w c (λ c'. t₁ c' m₁))) (map acted (follows X₂ w c (λ c'. t₂ c' m₂))) (after_way X₁ w o c n e m₁ f₁) (after_way X₂ w o c n e m₂ f₂)
     unfolding Rests
-    way_tracks p (Faulted f) o c n e m₁ m₂ t₁ t₂ f₁ f₂ h k = ends p _ _ _ m₁ m₂ h
-    way_tracks p Next o c n e m₁ m₂ t₁ t₂ f₁ f₂ h k = k (c + 1) m₁ m₂ h
-    way_tracks p (Jumped x) o c n e m₁ m₂ t₁ t₂ f₁ f₂ h k = k x m₁ m₂ h
-    way_tracks p Stopped o c n e m₁ m₂ t₁ t₂ f₁ f₂ h k = ends p _ _ _ m₁ m₂ h
-    way_tracks p (Answered v) o c n e m₁ m₂ t₁ t₂ f₁ f₂ h k = ends p _ _ _ m₁ m₂ h
+    way_tracks p (Ok Next) o c n e m₁ m₂ t₁ t₂ f₁ f₂ h k = k (c + 1) m₁ m₂ h
+    way_tracks p (Ok (Jumped x)) o c n e m₁ m₂ t₁ t₂ f₁ f₂ h k = k x m₁ m₂ h
+    way_tracks p _ o c n e m₁ m₂ t₁ t₂ f₁ f₂ h k = ends p _ _ _ m₁ m₂ h
 
-    steps : (p : List (Entry M₂)) (c : ℕ) (o : Step) (m₁ : M₁) (m₂ : M₂) → Q p m₁ m₂ → Place p (met act₁ close₁ c o m₁) (met act₂ close₂ c o m₂)
+    steps : (p : List (Entry M₂)) (c : ℕ) (o : Step) (m₁ : M₁) (m₂ : M₂) → Q p m₁ m₂ → Place p (met X₁ c o m₁) (met X₂ c o m₂)
     steps p c o m₁ m₂ h = record { counter = c; step = o; first = refl; second = refl; kept = h }
 
     tried_tracks : (p : List (Entry M₂)) (b : Bool) (o : Step) (c n e : ℕ) (m₁ : M₁) (m₂ : M₂) (t₁ : ℕ → M₁ → List (Met M₁)) (t₂ : ℕ → M₂ → List (Met M₂)) (f₁ : ℕ → M₁ → Turn M₁) (f₂ : ℕ → M₂ → Turn M₂) → Q p m₁ m₂ →
-        Rests (acted (met act₂ close₂ c o m₂) ∷ p) t₁ t₂ f₁ f₂ →
-        Called p (map acted (attempts act₁ close₁ b c o m₁ t₁)) (map acted (attempts act₂ close₂ b c o m₂ t₂)) (tried act₁ close₁ b o c n e m₁ f₁) (tried act₂ close₂ b o c n e m₂ f₂)
+        Rests (acted (met X₂ c o m₂) ∷ p) t₁ t₂ f₁ f₂ →
+        Called p (map acted (attempts X₁ b c o m₁ t₁)) (map acted (attempts X₂ b c o m₂ t₂)) (tried X₁ b o c n e m₁ f₁) (tried X₂ b o c n e m₂ f₂)
     tried_tracks p false o c n e m₁ m₂ t₁ t₂ f₁ f₂ h k = ends p _ _ _ m₁ m₂ h
     tried_tracks p true o c n e m₁ m₂ t₁ t₂ f₁ f₂ h k =
         let d = acts p c o m₁ m₂ h in
-        let r = way_tracks (acted (met act₂ close₂ c o m₂) ∷ p) (act₂ c o m₂).way o c n e (act₁ c o m₁).after (act₂ c o m₂).after t₁ t₂ f₁ f₂ d.after k in
-        let P : Way → Type 0 = λ w. Called (acted (met act₂ close₂ c o m₂) ∷ p) (map acted (follows act₁ close₁ w c (λ c'. t₁ c' (act₁ c o m₁).after))) (map acted (follows act₂ close₂ (act₂ c o m₂).way c (λ c'. t₂ c' (act₂ c o m₂).after)))
-        (after_way act₁ close₁ w o c n e (act₁ c o m₁).after f₁) (after_way act₂ close₂ (act₂ c o m₂).way o c n e (act₂ c o m₂).after f₂) in
+        let r = way_tracks (acted (met X₂ c o m₂) ∷ p) (X₂.act c o m₂).way o c n e (X₁.act c o m₁).after (X₂.act c o m₂).after t₁ t₂ f₁ f₂ d.after k in
+        let P : Result Way Cause → Type 0 = λ w. Called (acted (met X₂ c o m₂) ∷ p) (map acted (follows X₁ w c (λ c'. t₁ c' (X₁.act c o m₁).after))) (map acted (follows X₂ (X₂.act c o m₂).way c (λ c'. t₂ c' (X₂.act c o m₂).after)))
+        (after_way X₁ w o c n e (X₁.act c o m₁).after f₁) (after_way X₂ (X₂.act c o m₂).way o c n e (X₂.act c o m₂).after f₂) in
         let z = subst P (sym d.way) r in
         record { tracks = (steps p c o m₁ m₂ h, z.tracks); level = z.level }
 
     runs_tracks : (k : ℕ) (p : List (Entry M₂)) (os : List Step) (c n e : ℕ) (m₁ : M₁) (m₂ : M₂) → Q p m₁ m₂ →
-        Called p (map acted (trail_of_run act₁ close₁ k os c m₁)) (map acted (trail_of_run act₂ close₂ k os c m₂)) (runs act₁ close₁ k os c n e m₁) (runs act₂ close₂ k os c n e m₂)
+        Called p (map acted (trail_of_run X₁ k os c m₁)) (map acted (trail_of_run X₂ k os c m₂)) (runs X₁ k os c n e m₁) (runs X₂ k os c n e m₂)
     unfolding Rests
     runs_tracks zero p os c n e m₁ m₂ h = ends p _ _ _ m₁ m₂ h
     runs_tracks (suc k) p os c n e m₁ m₂ h =
         tried_tracks p (ltb c (length os)) (get_or os c stop) c n e m₁ m₂ _ _ _ _ h
-        (λ c' x₁ x₂ r. runs_tracks k (acted (met act₂ close₂ c (get_or os c stop) m₂) ∷ p) os c' (n + 1) (e + extra (get_or os c stop).code) x₁ x₂ r)
+        (λ c' x₁ x₂ r. runs_tracks k (acted (met X₂ c (get_or os c stop) m₂) ∷ p) os c' (n + 1) (e + extra (get_or os c stop).code) x₁ x₂ r)
 
-    begun_tracks : (p : List (Entry M₂)) (b : Bool) (x : ℕ) (s₁ : Driven M₁) (s₂ : Driven M₂) → Paired (Q p) s₁ s₂ → Called p (begins_at act₁ close₁ b) (begins_at act₂ close₂ b) (begun act₁ close₁ b x s₁) (begun act₂ close₂ b x s₂)
+    begun_tracks : (p : List (Entry M₂)) (b : Bool) (x : ℕ) (s₁ : Driven M₁) (s₂ : Driven M₂) → Paired (Q p) s₁ s₂ → Called p (begins_at X₁ b) (begins_at X₂ b) (begun X₁ b x s₁) (begun X₂ b x s₂)
     begun_tracks p false x s₁ s₂ h = record { tracks = tt; level = record { answer = refl; after = h } }
     begun_tracks p true x s₁ s₂ h = record { tracks = tt; level = record { answer = refl; after = record { counter = refl; phase = refl; player = closes p s₁.player s₂.player h.player } } }
 
     ran_tracks : (p : List (Entry M₂)) (f : Phase) (os : List Step) (k c : ℕ) (m₁ : M₁) (m₂ : M₂) → Q p m₁ m₂ →
-        Called p (map acted (trail_in act₁ close₁ f os k c m₁)) (map acted (trail_in act₂ close₂ f os k c m₂)) (run_in act₁ close₁ f os k c m₁) (run_in act₂ close₂ f os k c m₂)
+        Called p (map acted (trail_in X₁ f os k c m₁)) (map acted (trail_in X₂ f os k c m₂)) (run_in X₁ f os k c m₁) (run_in X₂ f os k c m₂)
     ran_tracks p Idle os k c m₁ m₂ h = ends p _ _ _ m₁ m₂ h
     ran_tracks p Halted os k c m₁ m₂ h = ends p _ _ _ m₁ m₂ h
     ran_tracks p Going os k c m₁ m₂ h = runs_tracks k p os c 0 0 m₁ m₂ h
 
     pressing_tracks : (p : List (Entry M₂)) (b : Bool) (o : Step) (s₁ : Driven M₁) (s₂ : Driven M₂) → Paired (Q p) s₁ s₂ →
-        Called p (map acted (trail_of_press act₁ close₁ b s₁.counter o s₁.player)) (map acted (trail_of_press act₂ close₂ b s₂.counter o s₂.player)) (pressing act₁ close₁ b o s₁) (pressing act₂ close₂ b o s₂)
+        Called p (map acted (trail_of_press X₁ b s₁.counter o s₁.player)) (map acted (trail_of_press X₂ b s₂.counter o s₂.player)) (pressing X₁ b o s₁) (pressing X₂ b o s₂)
     pressing_tracks p true o s₁ s₂ h = record { tracks = tt; level = record { answer = refl; after = h } }
     pressing_tracks p false o s₁ s₂ h =
-        let d : Matches (Q (acted (met act₂ close₂ s₂.counter o s₂.player) ∷ p)) (act₁ s₁.counter o s₁.player) (act₂ s₂.counter o s₂.player) =
+        let d : Matches (Q (acted (met X₂ s₂.counter o s₂.player) ∷ p)) (X₁.act s₁.counter o s₁.player) (X₂.act s₂.counter o s₂.player) =
         rw h.counter (acts p s₂.counter o s₁.player s₂.player h.player) in
-        let t : Place p (met act₁ close₁ s₁.counter o s₁.player) (met act₂ close₂ s₂.counter o s₂.player) = rw h.counter (steps p s₂.counter o s₁.player s₂.player h.player) in
+        let t : Place p (met X₁ s₁.counter o s₁.player) (met X₂ s₂.counter o s₂.player) = rw h.counter (steps p s₂.counter o s₁.player s₂.player h.player) in
         record { tracks = (t, tt); level = record { answer = rw d.way; after = record { counter = h.counter; phase = h.phase; player = d.after } } }
 
     pressed_tracks : (p : List (Entry M₂)) (t : Option Step) (r : Operation) (s₁ : Driven M₁) (s₂ : Driven M₂) → Paired (Q p) s₁ s₂ →
-        Called p (map acted (trail_of_record act₁ close₁ t s₁.counter s₁.player)) (map acted (trail_of_record act₂ close₂ t s₂.counter s₂.player)) (pressed act₁ close₁ t r s₁) (pressed act₂ close₂ t r s₂)
+        Called p (map acted (trail_of_record X₁ t s₁.counter s₁.player)) (map acted (trail_of_record X₂ t s₂.counter s₂.player)) (pressed X₁ t r s₁) (pressed X₂ t r s₂)
     pressed_tracks p None r s₁ s₂ h = record { tracks = tt; level = record { answer = refl; after = h } }
     pressed_tracks p (Some o) r s₁ s₂ h = pressing_tracks p (barred o.code) o s₁ s₂ h
 
-    handle_tracks : (p : List (Entry M₂)) (q : HostCall) (s₁ : Driven M₁) (s₂ : Driven M₂) → Paired (Q p) s₁ s₂ → Called p (entries_of act₁ close₁ q s₁) (entries_of act₂ close₂ q s₂) (handle act₁ close₁ q s₁) (handle act₂ close₂ q s₂)
+    handle_tracks : (p : List (Entry M₂)) (q : HostCall) (s₁ : Driven M₁) (s₂ : Driven M₂) → Paired (Q p) s₁ s₂ → Called p (entries_of X₁ q s₁) (entries_of X₂ q s₂) (handle X₁ q s₁) (handle X₂ q s₂)
     handle_tracks p (start os x) s₁ s₂ h = begun_tracks p (ltb x (length os)) x s₁ s₂ h
     handle_tracks p (run os k) s₁ s₂ h = rw (h.phase, h.counter) (ran_tracks p s₂.phase os k s₂.counter s₁.player s₂.player h.player)
     handle_tracks p (press r) s₁ s₂ h = pressed_tracks p (step_of r) r s₁ s₂ h
 
-    pub trails_track : (p : List (Entry M₂)) (qs : List HostCall) (s₁ : Driven M₁) (s₂ : Driven M₂) → Paired (Q p) s₁ s₂ → Tracks p (trail act₁ close₁ qs s₁) (trail act₂ close₂ qs s₂)
+    pub trails_track : (p : List (Entry M₂)) (qs : List HostCall) (s₁ : Driven M₁) (s₂ : Driven M₂) → Paired (Q p) s₁ s₂ → Tracks p (trail X₁ qs s₁) (trail X₂ qs s₂)
     trails_track p [] s₁ s₂ h = tt
     trails_track p (q ∷ qs) s₁ s₂ h =
         let t = handle_tracks p q s₁ s₂ h in
-        tracks_append p (entries_of act₁ close₁ q s₁) _ (entries_of act₂ close₂ q s₂) _ t.tracks (trails_track (onto (entries_of act₂ close₂ q s₂) p) qs (handle act₁ close₁ q s₁).after (handle act₂ close₂ q s₂).after t.level.after)
+        tracks_append p (entries_of X₁ q s₁) _ (entries_of X₂ q s₂) _ t.tracks (trails_track (reverse_aux (entries_of X₂ q s₂) p) qs (handle X₁ q s₁).after (handle X₂ q s₂).after t.level.after)
+
+    -- so both answer the same, and stay paired
+    pub answers_level : (p : List (Entry M₂)) (qs : List HostCall) (s₁ : Driven M₁) (s₂ : Driven M₂) → Paired (Q p) s₁ s₂ → answers X₁ qs s₁ ≡ answers X₂ qs s₂
+    answers_level p [] s₁ s₂ h = refl
+    answers_level p (q ∷ qs) s₁ s₂ h =
+        let t = (handle_tracks p q s₁ s₂ h).level in
+        rw (t.answer, answers_level (reverse_aux (entries_of X₂ q s₂) p) qs (handle X₁ q s₁).after (handle X₂ q s₂).after t.after)
+
+    pub leads_level : (p : List (Entry M₂)) (qs : List HostCall) (s₁ : Driven M₁) (s₂ : Driven M₂) → Paired (Q p) s₁ s₂ → (p' : List (Entry M₂)) × Paired (Q p') (leads_to X₁ qs s₁) (leads_to X₂ qs s₂)
+    leads_level p [] s₁ s₂ h = (p, h)
+    leads_level p (q ∷ qs) s₁ s₂ h = leads_level (reverse_aux (entries_of X₂ q s₂) p) qs (handle X₁ q s₁).after (handle X₂ q s₂).after (handle_tracks p q s₁ s₂ h).level.after

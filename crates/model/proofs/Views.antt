@@ -15,6 +15,14 @@ upd_same f i x j e = rw (eq-eqb j i e)
 pub upd_other : {X : Type 0} (f : ℕ → X) (i : ℕ) (x : X) (j : ℕ) → (j ≡ i → ⊥) → upd f i x j ≡ f j
 upd_other f i x j e = rw (ne_eqb j i e)
 
+-- what holds of the new value, and of what else stands there, holds
+pub upd_by : {X : Type 0} (P : X → Type 0) (f : ℕ → X) (i : ℕ) (x : X) (j : ℕ) → (j ≡ i → P x) → ((j ≡ i → ⊥) → P (f j)) → P (upd f i x j)
+upd_by P f i x j new old = go (cases_eq j i)
+  where
+    go : (j ≡ i) ⊎ (j ≡ i → ⊥) → P (upd f i x j)
+    go (inl e) = rw (upd_same f i x j e) (new e)
+    go (inr e) = rw (upd_other f i x j e) (old e)
+
 pub upd_map : {X Y : Type 0} (f : X → Y) (u : ℕ → X) (i : ℕ) (x : X) (j : ℕ) → f (upd u i x j) ≡ upd (λ k. f (u k)) i (f x) j
 upd_map f u i x j = go (eqb j i)
   where
@@ -23,11 +31,7 @@ upd_map f u i x j = go (eqb j i)
     go false = refl
 
 pub get_set : {X : Type 0} (l : List X) (i : ℕ) (a d : X) (j : ℕ) → i < length l → get_or (set l i a) j d ≡ upd (λ k. get_or l k d) i a j
-get_set l i a d j h = go (cases_eq j i)
-  where
-    go : (j ≡ i) ⊎ (j ≡ i → ⊥) → get_or (set l i a) j d ≡ upd (λ k. get_or l k d) i a j
-    go (inl e) = rw (upd_same (λ k. get_or l k d) i a j e, e) (get_or-set_same l i a d h)
-    go (inr e) = rw (upd_other (λ k. get_or l k d) i a j e) (get_or-set_other l i j a d e)
+get_set l i a d j h = upd_by (λ z. get_or (set l i a) j d ≡ z) (λ k. get_or l k d) i a j (λ e. rw e (get_or-set_same l i a d h)) (λ e. get_or-set_other l i j a d e)
 
 pub get_push : {X : Type 0} (l : List X) (x d : X) (j : ℕ) → get_or (l ++ (x ∷ [])) j d ≡ upd (λ k. get_or l k d) (length l) x j
 get_push l x d j = go (cases_eq j (length l)) (cases_lt j (length l))

@@ -1,24 +1,26 @@
 -- The machine agrees with the book over every history. Assumes nothing.
-use Rattle.std.proofs.Common.{◌≡◌, ℕ, zero, suc, ◌+◌, ◌-◌, ◌<◌, Bool, false, List, get_or, replicate, Some, None, Option, sym, refl, ap, ◌∙◌, arith}
+use Rattle.std.proofs.Common.{◌≡◌, ℕ, zero, suc, ◌+◌, ◌-◌, ◌<◌, Bool, false, List, [], get_or, replicate, Some, None, Option, sym, refl, ap, ◌∙◌, arith}
 use Rattle.std.proofs.lemmas.Bool.{true≢false}
 use Rattle.std.proofs.lemmas.List.{length-replicate, get_or-replicate}
 use Rattle.heaps.specs.Rule.{HeapRule}
 use Rattle.heaps.specs.Points.{Points, cleared}
 use Rattle.racks.specs.Rule.{RackRule}
 use Rattle.racks.specs.Points.{RackPoints, cleared as rack-cleared}
-use Rattle.model.specs.Sheet.{State, act, close}
+use Rattle.model.specs.Sheet.{player}
 use Rattle.model.specs.declared.sidecar.Sidecar.{Sidecar}
 use Rattle.model.specs.Machine.{Core, side, machine, made}
 use Rattle.model.specs.Grants.{Outline, globals, living_block, living_frame}
 use Rattle.model.specs.History.{Book, outline, book, opened, born}
 use Rattle.model.specs.Driving.{HostCall}
 use Rattle.model.specs.Agreement.{idle, descent, book_after, machine_after, Agree}
-use Rattle.model.proofs.Driving.{Paired, answers_level, leads_level}
-use Rattle.model.proofs.Sheeting.{Both, Rows, rows_get, Steps, Agrees, acts_like, closes_like}
+use Rattle.model.proofs.Driving.{Paired}
+use Rattle.model.proofs.Tracking.{answers_level, leads_level}
+use Rattle.model.proofs.Sheeting.{Both, Rows, rows_get, Steps, acts_like, closes_like}
 use Rattle.model.proofs.Counts.{count_none}
 use Rattle.model.proofs.Relation.{World, Alike, Kept, Ties, Rel}
 use Rattle.model.proofs.Access.{check_same, load_like, mark_like, loadb_like, store_like, storeb_like}
-use Rattle.model.proofs.Releasing.{release_same, release_like, frame_like, leave_like}
+use Rattle.model.proofs.Releasing.{release_like, frame_like, leave_like}
+use Rattle.model.proofs.Allies.{Ally}
 use Rattle.model.proofs.Granting.{enter_like, grab_like}
 
 module _ (H : HeapRule) (R : RackRule) (P : Points H) (Q : RackPoints R) where
@@ -32,8 +34,7 @@ module _ (H : HeapRule) (R : RackRule) (P : Points H) (Q : RackPoints R) where
     storeb = λ w k c b s g x v r a e. storeb_like H R w k c b r s g a x v e;
     keys = λ w k c b r. rw (r.issued, r.ceiling);
     grab = λ w k c b n r. grab_like H R P Q w k c b r n;
-    release = λ w k c b s g x r a. release_same H R P Q w k c b r s g x a;
-    releases = λ w k c b s g x r a e. release_like H R P Q w k c b r s g x a e;
+    release = λ w k c b s g x r a. release_like H R P Q w k c b r s g x a;
     enter = λ w k c b r l. enter_like H R P Q w k c b r l;
     leave = λ w k c b r. leave_like H R P Q w k c b r;
     frame = λ w k c b r. frame_like H R P Q w k c b r;
@@ -93,10 +94,7 @@ module _ (H : HeapRule) (R : RackRule) (P : Points H) (Q : RackPoints R) where
       stored = record { room = length-replicate {A = ℕ} 8192 0; words = length-replicate {A = Option Sidecar} 1024 None; kept = λ g l _. rw (only g l) kept₀ };
     }
 
-    abbrev pub Ally : State Sidecar (Core H.State R.State) → State ℕ (Book H.State) → Type 0
-    Ally = Agrees (machine H R) (book H) World Alike (Rel H R)
-
-    pub begin : Paired Ally (idle (made H R top s r)) (idle (opened H top s))
+    pub begin : Paired (Ally H R) (idle (made H R top s r)) (idle (opened H top s))
     begin = record { counter = refl; phase = refl; player = record { ghost = world; common = refl; tags = rows 16; store = rel₀ } }
       where
         rows : (n : ℕ) → Rows (Both (Alike world)) (replicate n None) (replicate n None)
@@ -114,10 +112,10 @@ module _ (H : HeapRule) (R : RackRule) (P : Points H) (Q : RackPoints R) where
 
     pub agrees : (qs : List HostCall) → Agree H R top s r qs
     agrees qs = record {
-      answers = answers_level (act (machine H R)) (close (machine H R)) (act (book H)) (close (book H)) Ally (acts_like (machine H R) (book H) World Alike (Rel H R) steps) (closes_like (machine H R) (book H) World Alike (Rel H R) steps) qs _ _ begin;
+      answers = answers_level (player (machine H R)) (player (book H)) (λ _. Ally H R) (λ _. acts_like (machine H R) (book H) World Alike (Rel H R) steps) (λ _. closes_like (machine H R) (book H) World Alike (Rel H R) steps) [] qs _ _ begin;
       words = λ i. ap (λ (x : _). get_or x.words i 0) pair.player.common;
       descents = λ i. same_descent pair.player.ghost _ _ _ pair.player.store _ _ (rows_get (Both (Alike pair.player.ghost)) (machine_after H R top s r qs).player.tags (book_after H R top s r qs).player.tags i None None tt pair.player.tags);
     }
       where
-        pair : Paired Ally (machine_after H R top s r qs) (book_after H R top s r qs)
-        pair = leads_level (act (machine H R)) (close (machine H R)) (act (book H)) (close (book H)) Ally (acts_like (machine H R) (book H) World Alike (Rel H R) steps) (closes_like (machine H R) (book H) World Alike (Rel H R) steps) qs _ _ begin
+        pair : Paired (Ally H R) (machine_after H R top s r qs) (book_after H R top s r qs)
+        pair = (leads_level (player (machine H R)) (player (book H)) (λ _. Ally H R) (λ _. acts_like (machine H R) (book H) World Alike (Rel H R) steps) (λ _. closes_like (machine H R) (book H) World Alike (Rel H R) steps) [] qs _ _ begin).1

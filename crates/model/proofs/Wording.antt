@@ -1,42 +1,41 @@
 -- The book's checks, loads and grabs, in the words of the promise. Assumes nothing.
-use Rattle.std.proofs.Common.{◌≡◌, ℕ, zero, suc, ◌+◌, ◌-◌, ◌%◌, ◌<◌, ◌≤◌, Bool, true, false, eqb, ◌⊎◌, List, length, get_or, set, is_some, Some, None, Option, sym, refl, ap, ◌∙◌, subst, inl, inr, arith}
+use Rattle.std.proofs.Common.{◌≡◌, ◌↔◌, ℕ, zero, suc, ◌+◌, ◌-◌, ◌%◌, ◌<◌, ◌≤◌, Bool, true, false, eqb, ◌⊎◌, List, length, get_or, set, is_some, Some, None, Option, sym, refl, ap, ◌∙◌, subst, inl, inr, is_ok, arith, Ok, Result}
 use Rattle.faults.specs.declared.cause.Cause.{Cause}
-use Rattle.std.proofs.lemmas.Bool.{and_parts, le-leb, lt-ltb, eq-eqb, eqb-true, true≢false}
+use Rattle.std.proofs.lemmas.Bool.{and_parts, le-leb, lt-ltb, eq-eqb, eqb-true}
 use Rattle.heaps.specs.Rule.{Block, HeapRule}
 use Rattle.heaps.specs.Points.{Points, Apart}
 use Rattle.racks.specs.Rule.{RackRule}
 use Rattle.racks.specs.Points.{RackPoints}
-use Rattle.model.specs.Sheet.{Named, name, keep, access, unless, released}
+use Rattle.model.specs.Sheet.{Named, name, access, released}
 use Rattle.model.specs.Parts.{value, part}
 use Rattle.model.specs.declared.sidecar.Sidecar.{Sidecar}
 use Rattle.model.specs.Machine.{Core, machine, faults, within}
 use Rattle.model.specs.Machine
 use Rattle.model.specs.Grants.{Outline, is_block, living_block, count}
-use Rattle.model.specs.History.{Book, nth, outline, book, blocks}
-use Rattle.model.specs.Trail.{passing}
+use Rattle.model.specs.History.{Book, nth, outline, book, blocks, OfBook}
 use Rattle.model.specs.Sights.{Wrote, newest}
 use Rattle.model.specs.Lives.{Lives}
-use Rattle.model.specs.Promise.{Iff, Reaches, Endable, Clear, living_blocks, last_stored}
+use Rattle.model.specs.Promise.{Reaches, Endable, Clear, living_blocks, last_stored}
 use Rattle.model.proofs.Sheeting.{Both}
 use Rattle.model.proofs.Access.{passed}
+use Rattle.model.proofs.Checked.{accessed, freed}
 use Rattle.model.proofs.Recording.{Tells}
 use Rattle.model.proofs.Living.{Same}
 use Rattle.model.proofs.Counts.{count_ext}
-use Rattle.model.proofs.Allies.{BState}
 use Rattle.model.proofs.OneKind.{block_is}
 
 -- the book's checks in words
 module _ {S : Type 0} (b : Book S) (g x n : ℕ) where
-  abbrev tested : Option Cause
+  abbrev tested : Result Unit Cause
   tested = faults (outline b g).living (within (outline b g).start ((outline b g).start + (outline b g).asked) x n) (eqb (x % n) 0)
 
-  even_of : (u v w : Bool) → faults u v w ≡ None → w ≡ true
+  even_of : (u v w : Bool) → faults u v w ≡ Ok tt → w ≡ true
   even_of false v w h = cc
   even_of true false w h = cc
   even_of true true false h = cc
   even_of true true true h = refl
 
-  reaches : tested ≡ None → Reaches (outline b g) x n
+  reaches : tested ≡ Ok tt → Reaches (outline b g) x n
   reaches h =
       let p = passed (outline b g) x n h in
       record {
@@ -46,7 +45,7 @@ module _ {S : Type 0} (b : Book S) (g x n : ℕ) where
         even = λ e. let z = eqb-true (x % n) 0 (even_of (outline b g).living _ _ h) in rw e at z;
       }
 
-  reached : (n ≡ 8) ⊎ (n ≡ 1) → Reaches (outline b g) x n → tested ≡ None
+  reached : (n ≡ 8) ⊎ (n ≡ 1) → Reaches (outline b g) x n → tested ≡ Ok tt
   reached k r =
       let low = r.low in
       let high = r.high in
@@ -57,67 +56,47 @@ module _ {S : Type 0} (b : Book S) (g x n : ℕ) where
       go (inr e) = rw e (omega arith)
 
 module _ (H : HeapRule) (R : RackRule) (P : Points H) (Q : RackPoints R) where
-  pub access_iff : (m : BState H) (t : Option ℕ) (x n : ℕ) (k : (n ≡ 8) ⊎ (n ≡ 1)) (f : ℕ → (BState H)) → Iff (passing (access (book H) m t x n f).way ≡ true) ((g : ℕ) × (t ≡ Some g) × Reaches (outline m.store g) x n)
-  access_iff m None x n k f = (λ h. absurd (true≢false (sym h)), λ h. let e = h.1 in cc)
-  access_iff m (Some g) x n k f = (λ h. there ((book H).check m.store g x n) refl h, λ h. back h)
+  pub access_iff : (m : OfBook H) (t : Option ℕ) (x n : ℕ) (k : (n ≡ 8) ⊎ (n ≡ 1)) (f : ℕ → (OfBook H)) → (is_ok (access (book H) m t x n f).way ≡ true) ↔ ((g : ℕ) × (t ≡ Some g) × Reaches (outline m.store g) x n)
+  access_iff m t x n k f = (accessed (book H) m (λ t d. is_ok d.way ≡ true → (g : ℕ) × (t ≡ Some g) × Reaches (outline m.store g) x n) (λ _ _ h. cc) t x n f (λ g e _. (g, refl, reaches m.store g x n e)), back)
     where
-      there : (r : Option Cause) → (book H).check m.store g x n ≡ r → passing (unless r m (f g)).way ≡ true → (g' : ℕ) × (Some g ≡ Some g') × Reaches (outline m.store g') x n
-      there None e h = (g, refl, reaches m.store g x n e)
-      there (Some z) e h = absurd (true≢false (sym h))
+      back : (g : ℕ) × (t ≡ Some g) × Reaches (outline m.store g) x n → is_ok (access (book H) m t x n f).way ≡ true
+      back h = rw (h.1, reached m.store h.0 x n k h.2)
 
-      back : (g' : ℕ) × (Some g ≡ Some g') × Reaches (outline m.store g') x n → passing (unless ((book H).check m.store g x n) m (f g)).way ≡ true
-      back h =
-          let e : h.0 ≡ g = let v = h.1 in cc in
-          let r : Reaches (outline m.store g) x n = subst (λ i. Reaches (outline m.store i) x n) e h.2 in
-          rw (reached m.store g x n k r)
-
-  pub release_iff : (m : BState H) (t : Option ℕ) (x : ℕ) → Iff (passing (released (book H) m t x).way ≡ true) ((g : ℕ) × (t ≡ Some g) × Endable (outline m.store g))
-  release_iff m None x = (λ h. absurd (true≢false (sym h)), λ h. let e = h.1 in cc)
-  release_iff m (Some g) x = (λ h. there (outline m.store g).living (is_block (outline m.store g).kind) refl refl h, λ h. back h)
+  pub release_iff : (m : OfBook H) (t : Option ℕ) (x : ℕ) → (is_ok (released (book H) m t x).way ≡ true) ↔ ((g : ℕ) × (t ≡ Some g) × Endable (outline m.store g))
+  release_iff m t x = (freed H m (λ t d. is_ok d.way ≡ true → (g : ℕ) × (t ≡ Some g) × Endable (outline m.store g)) (λ _ _ h. cc) t x (λ g e f _. (g, refl, record { living = e; heaps = block_is _ f })), back)
     where
-      there : (u v : Bool) → (outline m.store g).living ≡ u → is_block (outline m.store g).kind ≡ v → passing (unless (Machine.refuses u v) m (keep m ((book H).release m.store g x).after)).way ≡ true → (g' : ℕ) × (Some g ≡ Some g') × Endable (outline m.store g')
-      there false v a b h = absurd (true≢false (sym h))
-      there true false a b h = absurd (true≢false (sym h))
-      there true true a b h = (g, refl, record { living = a; heaps = block_is _ b })
-
-      back : (g' : ℕ) × (Some g ≡ Some g') × Endable (outline m.store g') → passing (unless (Machine.refuses (outline m.store g).living (is_block (outline m.store g).kind)) m (keep m ((book H).release m.store g x).after)).way ≡ true
-      back h =
-          let e : h.0 ≡ g = let v = h.1 in cc in
-          let r : Endable (outline m.store g) = subst (λ i. Endable (outline m.store i)) e h.2 in
-          rw (r.living, r.heaps)
+      back : (g : ℕ) × (t ≡ Some g) × Endable (outline m.store g) → is_ok (released (book H) m t x).way ≡ true
+      back h = rw (h.1, h.2.living, h.2.heaps)
 
   -- what a load brings, in the book
   part_tells : (l : List Wrote) (g s : ℕ) (m : List ℕ) → ((i : ℕ) → get_or m i 0 ≡ newest l g (s + i)) → (k i x : ℕ) → s + i ≡ x → part 0 k m i ≡ last_stored l g k x
   part_tells l g s m h zero i x e = refl
   part_tells l g s m h (suc k) i x e = rw (h i, e, part_tells l g s m h k (suc i) (suc x) (omega arith))
 
-  module _ (l : List Wrote) (m : BState H) (T : Tells H P l m.store) (d x g : ℕ) where
-    pub loaded : (t : Option ℕ) (u : ℕ → Option ℕ) → t ≡ Some g → passing (access (book H) m t x 8 (λ i. name m d ((book H).load m.store i x) (u i))).way ≡ true →
+  module _ (l : List Wrote) (m : OfBook H) (T : Tells H P l m.store) (d x g : ℕ) where
+    pub loaded : (t : Option ℕ) (u : ℕ → Option ℕ) → t ≡ Some g → is_ok (access (book H) m t x 8 (λ i. name m d ((book H).load m.store i x) (u i))).way ≡ true →
         (access (book H) m t x 8 (λ i. name m d ((book H).load m.store i x) (u i))).after.common.words ≡ set m.common.words d (value (last_stored l g 8 x))
-    loaded t u e h = rw e (go ((book H).check m.store g x 8) refl (rw e at h))
+    loaded t u e h = accessed (book H) m (λ t o. t ≡ Some g → is_ok o.way ≡ true → o.after.common.words ≡ set m.common.words d (value (last_stored l g 8 x))) (λ _ _ _ h. cc) t x 8 _ go e h
       where
-        go : (r : Option Cause) → (book H).check m.store g x 8 ≡ r → passing (unless r m (name m d ((book H).load m.store g x) (u g))).way ≡ true →
-            (unless r m (name m d ((book H).load m.store g x) (u g))).after.common.words ≡ set m.common.words d (value (last_stored l g 8 x))
-        go None q h =
-            let low = (reaches m.store g x 8 q).low in
-            ap (λ v. set m.common.words d (value v)) (part_tells l g (outline m.store g).start (nth m.store g).bytes (λ i. T.tells g i) 8 (x - (outline m.store g).start) x (omega arith))
-        go (Some z) q h = absurd (true≢false (sym h))
+        go : (i : ℕ) → (book H).check m.store i x 8 ≡ Ok tt → Some i ≡ Some g → true ≡ true → set m.common.words d ((book H).load m.store i x) ≡ set m.common.words d (value (last_stored l g 8 x))
+        go i q e h =
+            let z : i ≡ g = cc in
+            let low = (reaches m.store i x 8 q).low in
+            rw (← z) (ap (λ v. set m.common.words d (value v)) (part_tells l i (outline m.store i).start (nth m.store i).bytes (λ y. T.tells i y) 8 (x - (outline m.store i).start) x (omega arith)))
 
-    pub loadedb : (t : Option ℕ) → t ≡ Some g → passing (access (book H) m t x 1 (λ i. name m d ((book H).loadb m.store i x) None)).way ≡ true →
+    pub loadedb : (t : Option ℕ) → t ≡ Some g → is_ok (access (book H) m t x 1 (λ i. name m d ((book H).loadb m.store i x) None)).way ≡ true →
         (access (book H) m t x 1 (λ i. name m d ((book H).loadb m.store i x) None)).after.common.words ≡ set m.common.words d (newest l g x)
-    loadedb t e h = rw e (go ((book H).check m.store g x 1) refl (rw e at h))
+    loadedb t e h = accessed (book H) m (λ t o. t ≡ Some g → is_ok o.way ≡ true → o.after.common.words ≡ set m.common.words d (newest l g x)) (λ _ _ _ h. cc) t x 1 _ go e h
       where
-        go : (r : Option Cause) → (book H).check m.store g x 1 ≡ r → passing (unless r m (name m d ((book H).loadb m.store g x) None)).way ≡ true →
-            (unless r m (name m d ((book H).loadb m.store g x) None)).after.common.words ≡ set m.common.words d (newest l g x)
-        go None q h =
-            let low = (reaches m.store g x 1 q).low in
-            let z : (outline m.store g).start + (x - (outline m.store g).start) ≡ x = omega arith in
-            let v = T.tells g (x - (outline m.store g).start) in
-            let v' : get_or (nth m.store g).bytes (x - (outline m.store g).start) 0 ≡ newest l g x = rw z at v in
-            rw v'
-        go (Some z) q h = absurd (true≢false (sym h))
+        go : (i : ℕ) → (book H).check m.store i x 1 ≡ Ok tt → Some i ≡ Some g → true ≡ true → set m.common.words d ((book H).loadb m.store i x) ≡ set m.common.words d (newest l g x)
+        go i q e h =
+            let z : i ≡ g = cc in
+            let low = (reaches m.store i x 1 q).low in
+            let y : (outline m.store i).start + (x - (outline m.store i).start) ≡ x = omega arith in
+            let v = T.tells i (x - (outline m.store i).start) in
+            let v' : get_or (nth m.store i).bytes (x - (outline m.store i).start) 0 ≡ newest l i x = rw y at v in
+            rw (← z, v')
 
-  -- a grab that must get a grant
   pub named : (c : Core H.State R.State) (n : ℕ) (z : Named Sidecar) → ((machine H R).grab c n).block ≡ Some z → (z.start ≡ z.tag.base) × (z.tag.bound ≡ z.tag.base + n) × (z.tag.key ≡ c.issued + 1)
   named c n z h = go (H.take c.heap n).answer h
     where
@@ -136,7 +115,7 @@ module _ (H : HeapRule) (R : RackRule) (P : Points H) (Q : RackPoints R) where
   beyond x h y l (inr a) = inr (omega arith)
 
   some_of : {X : Type 0} (o : Option X) → is_some o ≡ true → (x : X) × (o ≡ Some x)
-  some_of None h = absurd (true≢false (sym h))
+  some_of None h = cc
   some_of (Some x) h = (x, refl)
 
   roomy : (b : Book H.State) (n : ℕ) → blocks b < 255 → (x : Block) → (H.take b.heap n).answer ≡ Some x → ((book H).grab b n).block ≡ Some (record { start = 1024 + x.start; tag = length b.grants })

@@ -7,14 +7,12 @@ pub data Kind : Type 0 where
   frame : Kind
 
 abbrev pub is_block : Kind → Bool
-is_block globals = false
 is_block block = true
-is_block frame = false
+is_block _ = false
 
 abbrev pub is_frame : Kind → Bool
-is_frame globals = false
-is_frame block = false
 is_frame frame = true
+is_frame _ = false
 
 pub record Outline : Type 0 where
   pub kind : Kind
@@ -28,7 +26,7 @@ abbrev pub alive : Kind → ℕ → ℕ → ℕ → Outline
 alive k x n h = record { kind = k; start = x; asked = n; held = h; living = true }
 
 abbrev pub over : Outline → Outline
-over o = record { kind = o.kind; start = o.start; asked = o.asked; held = o.held; living = false }
+over o = record o { living = false }
 
 -- what a number names that no grant has
 abbrev pub blank : Outline

@@ -1,9 +1,9 @@
 -- The lives of grants, as a trail shows them. Assumes nothing.
 -- Grants are numbered by birth. The globals live from the beginning, a block from the grab and a frame from the call that made it;
 -- a release ends its grant, a ret the youngest living frame, a start every living frame; and what has ended never lives again.
-use Rattle.std.specs.Prelude.{◌≡◌, ℕ, ◌+◌, ◌*◌, ◌<◌, ◌≤◌, false, cond, List, [], ◌∷◌, ◌++◌, Some, None, Option, ◌==◌}
+use Rattle.std.specs.Prelude.{◌≡◌, ℕ, ◌+◌, ◌*◌, ◌<◌, ◌≤◌, Bool, false, cond, List, [], ◌∷◌, ◌++◌, Some, None, Option, ◌==◌}
 use Rattle.operations.specs.declared.code.Code.{Code}
-use Rattle.operations.specs.declared.code.Code.TheVariants.{Stop, Set, Copy, Add, Sub, Addi, Mul, Div, Less, Load, Store, Loadb, Storeb, Jump, Jzero, Call, Ret, Frame, Global, Grab, Release, Out}
+use Rattle.operations.specs.declared.code.Code.TheVariants.{Call, Ret, Grab, Release}
 use Rattle.heaps.specs.Rule.{Block}
 use Rattle.model.specs.Grants.{globals, block, frame, is_frame, Outline, alive, over, blank, living_frame, latest, count}
 use Rattle.model.specs.Sights.{Seen, Sight, seen, restarted}
@@ -13,15 +13,18 @@ pub record Lives : Type 0 where
   pub many : ℕ
   pub of : ℕ → Outline
 
--- one grant more; one that ends; all frames ended
+-- one grant more; all that pass ended; one ended; all frames ended
 abbrev pub with_birth : Lives → Outline → Lives
 with_birth l o = record { many = l.many + 1; of = λ g. cond (g == l.many) o (l.of g) }
 
+abbrev pub without : Lives → (ℕ → Bool) → Lives
+without l f = record l { of = λ g. cond (f g) (over (l.of g)) (l.of g) }
+
 abbrev pub with_end : Lives → ℕ → Lives
-with_end l e = record { many = l.many; of = λ g. cond (g == e) (over (l.of g)) (l.of g) }
+with_end l e = without l (λ g. g == e)
 
 abbrev pub without_frames : Lives → Lives
-without_frames l = record { many = l.many; of = λ g. cond (is_frame (l.of g).kind) (over (l.of g)) (l.of g) }
+without_frames l = without l (λ g. is_frame (l.of g).kind)
 
 abbrev pub open_frames : Lives → ℕ
 open_frames l = count (λ g. living_frame (l.of g)) l.many
@@ -40,28 +43,11 @@ ended_by (Some g) l = with_end l g
 
 -- what a step does to lives
 abbrev pub changed : Code → Seen → Lives → Lives
-changed Stop e l = l
-changed Set e l = l
-changed Copy e l = l
-changed Add e l = l
-changed Sub e l = l
-changed Addi e l = l
-changed Mul e l = l
-changed Div e l = l
-changed Less e l = l
-changed Load e l = l
-changed Store e l = l
-changed Loadb e l = l
-changed Storeb e l = l
-changed Jump e l = l
-changed Jzero e l = l
 changed Call e l = cond e.passed (with_birth l (alive frame (5120 + 48 * open_frames l) 48 48)) l
 changed Ret e l = cond e.passed (with_end l (youngest_frame l)) l
-changed Frame e l = l
-changed Global e l = l
 changed Grab e l = cond e.keyed (block_born e.answer e.asked l) l
 changed Release e l = cond e.passed (ended_by e.from l) l
-changed Out e l = l
+changed _ e l = l
 
 -- after a trail, of which the newest stands first
 abbrev pub lives : List Sight → Lives

@@ -1,7 +1,8 @@
 -- The machine behind its registers: memory, shadow memory, lock places, keys, a heap and a rack. Assumes nothing.
 -- Memory is 8,192 bytes: the globals from 0, the heap from 1,024, the frames from 5,120, 48 bytes each. Shadow memory has a sidecar for each word.
 -- Lock place 0 is the globals', 1 to 255 are the rack's, and 256 + k is that of the frame at depth k.
-use Rattle.std.specs.Prelude.{ℕ, ◌+◌, ◌-◌, ◌*◌, ◌/◌, ◌%◌, Bool, true, false, ◌&&◌, List, [], ◌∷◌, replicate, Some, None, Option, ◌==◌, nat_le, nat_lt, slice_index, slice_index_or, slice_set}
+use Rattle.std.specs.Prelude.{ℕ, ◌+◌, ◌-◌, ◌*◌, ◌/◌, ◌%◌, Bool, true, false, ◌&&◌, List, [], ◌∷◌, replicate, Some, None, Option, Ok, Err, Result, ◌==◌, nat_le, nat_lt, slice_index, slice_index_or, slice_set}
+use Rattle.std.specs.Result.{result_and}
 use Rattle.faults.specs.declared.cause.Cause.{Cause}
 use Rattle.faults.specs.declared.cause.Cause.TheVariants.{Ended, OutOfBounds, Uneven, NotFromHeap}
 use Rattle.model.specs.Sheet.{Backing, Grabbed, State}
@@ -21,17 +22,17 @@ pub record Core (S R : Type 0) : Type 0 where
   pub rack : R
 
 -- the checks of an access, in their order: is the grant living, are the bytes inside, is the address even enough
-abbrev pub faults : Bool → Bool → Bool → Option Cause
-faults false i e = Some Ended
-faults true false e = Some OutOfBounds
-faults true true false = Some Uneven
-faults true true true = None
+abbrev pub faults : Bool → Bool → Bool → Result Unit Cause
+faults false i e = Err Ended
+faults true false e = Err OutOfBounds
+faults true true false = Err Uneven
+faults true true true = Ok tt
 
 -- the checks of a release: is the grant living, is it the heap's
-abbrev pub refuses : Bool → Bool → Option Cause
-refuses false i = Some Ended
-refuses true false = Some NotFromHeap
-refuses true true = None
+abbrev pub refuses : Bool → Bool → Result Unit Cause
+refuses false i = Err Ended
+refuses true false = Err NotFromHeap
+refuses true true = Ok tt
 
 -- whether n bytes from x on lie from lo up to hi
 abbrev pub within : ℕ → ℕ → ℕ → ℕ → Bool
@@ -43,16 +44,16 @@ covers n = (n + 7) / 8
 
 module _ {S R : Type 0} where
   abbrev pub write : Core S R → ℕ → List ℕ → List (Option Sidecar) → Core S R
-  write c x bs ts = record { memory = put c.memory x bs; shadow = put c.shadow (x / 8) ts; locks = c.locks; issued = c.issued; ceiling = c.ceiling; heap = c.heap; rack = c.rack }
+  write c x bs ts = record c { memory = put c.memory x bs; shadow = put c.shadow (x / 8) ts }
 
   abbrev pub lock : Core S R → ℕ → ℕ → Core S R
-  lock c p v = record { memory = c.memory; shadow = c.shadow; locks = slice_set c.locks p v; issued = c.issued; ceiling = c.ceiling; heap = c.heap; rack = c.rack }
+  lock c p v = record c { locks = slice_set c.locks p v }
 
   abbrev pub issue : Core S R → Core S R
-  issue c = record { memory = c.memory; shadow = c.shadow; locks = c.locks; issued = c.issued + 1; ceiling = c.ceiling; heap = c.heap; rack = c.rack }
+  issue c = record c { issued = c.issued + 1 }
 
   abbrev pub serve : Core S R → S → R → Core S R
-  serve c s r = record { memory = c.memory; shadow = c.shadow; locks = c.locks; issued = c.issued; ceiling = c.ceiling; heap = s; rack = r }
+  serve c s r = record c { heap = s; rack = r }
 
   -- a key is issued and written to place p, and the words that cover n bytes from x on become zero, without sidecars
   abbrev pub grant : Core S R → ℕ → ℕ → ℕ → Core S R
@@ -75,6 +76,10 @@ module _ (H : HeapRule) (R : RackRule) where
   taken c n None s = record { block = None; after = serve c s c.rack }
   taken c n (Some b) s = drawn c n b s (R.draw c.rack).answer (R.draw c.rack).after
 
+  -- a block of the heap ends
+  abbrev pub ends : Core H.State R.State → Sidecar → Core H.State R.State
+  ends c s = serve (lock c s.place 0) (H.give c.heap (s.base - 1024)).after (R.put c.rack s.place).after
+
   abbrev pub machine : Backing Sidecar (Core H.State R.State)
   machine = record {
     check = λ c s x n. faults (holds c s) (within s.base s.bound x n) (x % n == 0);
@@ -85,18 +90,18 @@ module _ (H : HeapRule) (R : RackRule) where
     storeb = λ c s x v. write c x ((v % 256) ∷ []) [];
     keys = λ c. nat_lt c.issued c.ceiling;
     grab = λ c n. taken c n (H.take c.heap n).answer (H.take c.heap n).after;
-    release = λ c s x. record {
-      fault = refuses (holds c s) (nat_le 1 s.place && nat_le s.place 255);
-      after = serve (lock c s.place 0) (H.give c.heap (s.base - 1024)).after (R.put c.rack s.place).after;
-    };
+    release = λ c s x. result_and (refuses (holds c s) (nat_le 1 s.place && nat_le s.place 255)) (Ok (ends c s));
     enter = λ c k. grant c (256 + k) (5120 + 48 * k) 48;
     leave = λ c k. lock c (256 + k) 0;
     frame = λ c k. side (5120 + 48 * k) 48 (slice_index c.locks (256 + k)) (256 + k);
     global = side 0 1024 1 0;
   }
 
+  abbrev pub OfMachine : Type 0
+  OfMachine = State Sidecar (Core H.State R.State)
+
   -- at making
-  abbrev pub made : ℕ → H.State → R.State → State Sidecar (Core H.State R.State)
+  abbrev pub made : ℕ → H.State → R.State → OfMachine
   made top s r = record {
     common = record { words = replicate 16 0; returns = [] };
     tags = replicate 16 None;

@@ -1,6 +1,7 @@
 -- What every history keeps, in the subject's words: over the trail of the machine, entry by entry. Assumes nothing.
 -- What lives, and what was stored, is told from the trail before an entry, and from nothing else.
-use Rattle.std.specs.Prelude.{◌≡◌, ℕ, zero, suc, ◌+◌, ◌%◌, ◌<◌, ◌≤◌, true, false, List, [], ◌∷◌, ◌++◌, length, Some, slice_set}
+use Rattle.std.specs.Prelude.{◌≡◌, ◌↔◌, ℕ, zero, suc, ◌+◌, ◌%◌, ◌<◌, ◌≤◌, true, false, List, [], ◌∷◌, ◌++◌, length, reverse, take, slice_get, Some, Ok, is_ok, slice_set}
+use Rattle.std.specs.Option.{option_or}
 use Rattle.operations.specs.declared.code.Code.{Code}
 use Rattle.operations.specs.declared.code.Code.TheVariants.{Add, Load, Store, Loadb, Storeb, Grab, Release}
 use Rattle.operations.specs.declared.step.Step.{Step}
@@ -9,20 +10,17 @@ use Rattle.model.specs.declared.way.Way.TheVariants.{Next}
 use Rattle.heaps.specs.Rule.{HeapRule}
 use Rattle.heaps.specs.Points.{Apart}
 use Rattle.racks.specs.Rule.{RackRule}
-use Rattle.model.specs.Sheet.{State, act, close, either, word, tag}
+use Rattle.model.specs.Sheet.{word, tag, player}
 use Rattle.model.specs.Parts.{value}
-use Rattle.model.specs.Machine.{Core, machine, made}
+use Rattle.model.specs.Machine.{OfMachine, machine, made}
 use Rattle.model.specs.Grants.{block, Outline, living_block, living_frame, count}
 use Rattle.model.specs.Driving.{HostCall, start}
 use Rattle.model.specs.Agreement.{idle, descent, Agree, machine_after}
-use Rattle.model.specs.Trail.{Met, Entry, acted, entries_of, trail, at, earlier, whole, target, passing}
+use Rattle.model.specs.Trail.{Met, Entry, acted, entries_of, trail, target}
 use Rattle.model.specs.Sights.{Sight, Wrote, log, newest, sights}
 use Rattle.model.specs.Lives.{Lives, lives}
 use Rattle.model.specs.Runs.{Drives}
 use Rattle.model.specs.Refusals.{Refuses}
-
-abbrev pub Iff : Type 0 → Type 0 → Type 0
-Iff A B = (A → B) × (B → A)
 
 -- how many bytes an access touches
 pub data Access : Code → ℕ → Type 0 where
@@ -58,16 +56,13 @@ last_stored l g zero x = []
 last_stored l g (suc k) x = newest l g x ∷ last_stored l g k (suc x)
 
 module _ (H : HeapRule) (R : RackRule) where
-  abbrev pub OfMachine : Type 0
-  OfMachine = State Sidecar (Core H.State R.State)
-
   -- an entry e of the machine's trail, and what is seen of the trail before it, the newest first
-  module _ (e : Met OfMachine) (past : List Sight) where
+  module _ (e : Met (OfMachine H R)) (past : List Sight) where
     abbrev pub o : Step
     o = e.step
 
     abbrev pub Passes : Type 0
-    Passes = passing e.did.way ≡ true
+    Passes = is_ok e.did.way ≡ true
 
     -- the address in register a descends from g
     abbrev pub Descends : ℕ → Type 0
@@ -80,16 +75,16 @@ module _ (H : HeapRule) (R : RackRule) where
     pub record Granted : Type 0 where
       pub sidecar : Sidecar
       pub number : descent (Some sidecar) ≡ Some (lives past).many
-      pub way : e.did.way ≡ Next
+      pub way : e.did.way ≡ Ok Next
       pub size : sidecar.bound ≡ sidecar.base + word e.before o.a
       pub words : e.did.after.common.words ≡ slice_set e.before.common.words o.d sidecar.base
       pub sidecars : e.did.after.tags ≡ slice_set e.before.tags o.d (Some sidecar)
 
     pub record Keeps : Type 0 where
       -- a load or store passes exactly when the grant that its address descends from is living and holds every byte touched
-      pub accesses : (n : ℕ) → Access o.code n → Iff Passes ((g : ℕ) × Descends g × Reaches (life g) (target e.before o) n)
+      pub accesses : (n : ℕ) → Access o.code n → Passes ↔ ((g : ℕ) × Descends g × Reaches (life g) (target e.before o) n)
       -- a release passes exactly when its grant is living and the heap's
-      pub releases : o.code ≡ Release → Iff Passes ((g : ℕ) × Descends g × Endable (life g))
+      pub releases : o.code ≡ Release → Passes ↔ ((g : ℕ) × Descends g × Endable (life g))
       -- each byte that a load brings is the one last stored at that address through the same grant, or zero if none was
       pub loads : o.code ≡ Load → Passes → (g : ℕ) → Descends g →
           e.did.after.common.words ≡ slice_set e.before.common.words o.d (value (last_stored (log past) g 8 (target e.before o)))
@@ -99,30 +94,30 @@ module _ (H : HeapRule) (R : RackRule) where
       pub grabs : o.code ≡ Grab → e.before.store.issued < e.before.store.ceiling → 1 ≤ word e.before o.a → word e.before o.a ≤ 256 →
           living_blocks (lives past) < 255 → (y : ℕ) → Clear (lives past) y → Granted
       -- a sum carries a's sidecar if a has one, whether its grant lives or not, and else b's
-      pub sums : o.code ≡ Add → e.did.after.tags ≡ slice_set e.before.tags o.d (either (tag e.before o.a) (tag e.before o.b))
+      pub sums : o.code ≡ Add → e.did.after.tags ≡ slice_set e.before.tags o.d (option_or (tag e.before o.a) (tag e.before o.b))
       -- a fault leaves all as it was
-      pub faults : passing e.did.way ≡ false → e.did.after ≡ e.before
+      pub faults : is_ok e.did.way ≡ false → e.did.after ≡ e.before
 
   module _ (top : ℕ) (s : H.State) (r : R.State) (qs : List HostCall) where
-    abbrev pub machine_trail : List (Entry OfMachine)
-    machine_trail = trail (act (machine H R)) (close (machine H R)) qs (idle (made H R top s r))
+    abbrev pub machine_trail : List (Entry (OfMachine H R))
+    machine_trail = trail (player (machine H R)) qs (idle (made H R top s r))
 
     -- the whole trail with one call more, the newest entry first
-    abbrev pub trail_after : HostCall → List (Entry OfMachine)
-    trail_after q = whole (trail (act (machine H R)) (close (machine H R)) (qs ++ (q ∷ [])) (idle (made H R top s r)))
+    abbrev pub trail_after : HostCall → List (Entry (OfMachine H R))
+    trail_after q = reverse (trail (player (machine H R)) (qs ++ (q ∷ [])) (idle (made H R top s r)))
 
     pub record Promise : Type 0 where
       -- all answers, faults and counts, and each register's word and descent, are those of the history book
       pub agree : Agree H R top s r qs
-      pub places : (i : ℕ) (e : Met OfMachine) → at machine_trail i ≡ Some (acted e) → Keeps e (sights H R (earlier i machine_trail))
+      pub places : (i : ℕ) (e : Met (OfMachine H R)) → slice_get machine_trail i ≡ Some (acted e) → Keeps e (sights H R (reverse (take i machine_trail)))
       -- a call more adds its own entries to the trail
-      pub grows : (q : HostCall) → trail (act (machine H R)) (close (machine H R)) (qs ++ (q ∷ [])) (idle (made H R top s r)) ≡ machine_trail ++ entries_of (act (machine H R)) (close (machine H R)) q (machine_after H R top s r qs)
+      pub grows : (q : HostCall) → trail (player (machine H R)) (qs ++ (q ∷ [])) (idle (made H R top s r)) ≡ machine_trail ++ entries_of (player (machine H R)) q (machine_after H R top s r qs)
       -- after a start that follows, no frame is living
       pub starts : (os : List Step) (x : ℕ) → x < length os → (g : ℕ) → living_frame ((lives (sights H R (trail_after (start os x)))).of g) ≡ false
       -- a run that follows, with any program
-      pub drives : (os : List Step) → Drives (act (machine H R)) (close (machine H R)) (machine_after H R top s r qs) os
+      pub drives : (os : List Step) → Drives (player (machine H R)) (machine_after H R top s r qs) os
       -- a call that follows and is refused
-      pub refuses : Refuses (act (machine H R)) (close (machine H R)) (machine_after H R top s r qs)
+      pub refuses : Refuses (player (machine H R)) (machine_after H R top s r qs)
 
 -- of a heap and a rack, every ceiling and every history
 abbrev pub AlwaysKeeps : HeapRule → RackRule → Type 0

@@ -1,15 +1,14 @@
 -- What is seen of a trail, and what is told from that alone: what was stored last. Assumes nothing.
-use Rattle.std.specs.Prelude.{ℕ, suc, Bool, true, false, cond, ◌&&◌, List, [], ◌∷◌, map, Some, None, Option, ◌==◌, nat_lt}
+use Rattle.std.specs.Prelude.{ℕ, suc, Bool, true, false, cond, ◌&&◌, List, [], ◌∷◌, map, Some, None, Option, is_ok, ◌==◌, nat_lt}
 use Rattle.operations.specs.declared.code.Code.{Code}
-use Rattle.operations.specs.declared.code.Code.TheVariants.{Stop, Set, Copy, Add, Sub, Addi, Mul, Div, Less, Load, Store, Loadb, Storeb, Jump, Jzero, Call, Ret, Frame, Global, Grab, Release, Out}
+use Rattle.operations.specs.declared.code.Code.TheVariants.{Store, Storeb}
 use Rattle.heaps.specs.Rule.{HeapRule, Block}
 use Rattle.racks.specs.Rule.{RackRule}
-use Rattle.model.specs.declared.sidecar.Sidecar.{Sidecar}
 use Rattle.model.specs.Agreement.{descent}
-use Rattle.model.specs.Machine.{Core}
+use Rattle.model.specs.Machine.{OfMachine}
 use Rattle.model.specs.Parts.{bytes}
 use Rattle.model.specs.Sheet.{State, word, tag}
-use Rattle.model.specs.Trail.{Entry, acted, began, passing, target}
+use Rattle.model.specs.Trail.{Entry, acted, began, target}
 
 -- what is seen of a step: whether it passed, the descent and the word of register a before it, the address that it goes to,
 -- the bytes that it is to store there, whether a key was issued, and the heap's answer to a take of so many bytes then
@@ -40,28 +39,9 @@ newest (w ∷ l) g x = cond (g == w.grant && x == w.address) w.byte (newest l g 
 
 -- how many bytes an operation stores
 abbrev pub stores : Code → ℕ
-stores Stop = 0
-stores Set = 0
-stores Copy = 0
-stores Add = 0
-stores Sub = 0
-stores Addi = 0
-stores Mul = 0
-stores Div = 0
-stores Less = 0
-stores Load = 0
 stores Store = 8
-stores Loadb = 0
 stores Storeb = 1
-stores Jump = 0
-stores Jzero = 0
-stores Call = 0
-stores Ret = 0
-stores Frame = 0
-stores Global = 0
-stores Grab = 0
-stores Release = 0
-stores Out = 0
+stores _ = 0
 
 -- bytes stored from an address on
 abbrev pub adds : ℕ → ℕ → List ℕ → List Wrote → List Wrote
@@ -86,7 +66,7 @@ module _ {T B : Type 0} (read : Option T → Option ℕ) (keys : B → ℕ) (tak
   abbrev pub sight_by : Entry (State T B) → Sight
   sight_by (acted e) = seen (record {
     code = e.step.code;
-    passed = passing e.did.way;
+    passed = is_ok e.did.way;
     from = read (tag e.before e.step.a);
     asked = word e.before e.step.a;
     address = target e.before e.step;
@@ -98,8 +78,8 @@ module _ {T B : Type 0} (read : Option T → Option ℕ) (keys : B → ℕ) (tak
 
 -- the machine's: descents by the sidecars, keys issued, and the heap that it has
 module _ (H : HeapRule) (R : RackRule) where
-  abbrev pub sight : Entry (State Sidecar (Core H.State R.State)) → Sight
+  abbrev pub sight : Entry (OfMachine H R) → Sight
   sight = sight_by descent (λ c. c.issued) (λ c n. (H.take c.heap n).answer)
 
-  abbrev pub sights : List (Entry (State Sidecar (Core H.State R.State))) → List Sight
+  abbrev pub sights : List (Entry (OfMachine H R)) → List Sight
   sights t = map sight t

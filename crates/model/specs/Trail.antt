@@ -1,13 +1,14 @@
 -- The trail of a history: every step attempted in it, in order, with the player that it met and what came of it. Assumes nothing.
-use Rattle.std.specs.Prelude.{ℕ, zero, suc, ◌+◌, Bool, true, false, List, [], ◌∷◌, ◌++◌, map, length, Some, None, Option, nat_lt, slice_index_or}
+use Rattle.std.specs.Prelude.{ℕ, zero, suc, ◌+◌, Bool, true, false, List, [], ◌∷◌, ◌++◌, map, length, Some, None, Option, Ok, Result, nat_lt, slice_index_or}
 use Rattle.std.proofs.Common.{of_z}
 use Rattle.std.specs.Int.{w64}
 use Rattle.operations.specs.declared.step.Step.{Step}
+use Rattle.faults.specs.declared.cause.Cause.{Cause}
 use Rattle.model.specs.declared.way.Way.{Way}
-use Rattle.model.specs.declared.way.Way.TheVariants.{Faulted, Next, Jumped, Stopped, Answered}
+use Rattle.model.specs.declared.way.Way.TheVariants.{Next, Jumped}
 use Rattle.model.specs.declared.phase.Phase.{Phase}
 use Rattle.model.specs.declared.phase.Phase.TheVariants.{Idle, Going, Halted}
-use Rattle.model.specs.Sheet.{Did, State, wrap, word}
+use Rattle.model.specs.Sheet.{Did, State, address, Player}
 use Rattle.operations.specs.Records.{step_of}
 use Rattle.operations.specs.Sound.{stop}
 use Rattle.model.specs.Driving.{HostCall, start, run, press, Driven, handle, barred}
@@ -24,21 +25,19 @@ pub data Entry (M : Type 0) : Type 0 where
   acted : Met M → Entry M
   began : Entry M
 
-module _ {M : Type 0} (act : ℕ → Step → M → Did M) (close : M → M) where
+module _ {M : Type 0} (X : Player M) where
   abbrev pub met : ℕ → Step → M → Met M
-  met c o m = record { counter = c; step = o; before = m; did = act c o m }
+  met c o m = record { counter = c; step = o; before = m; did = X.act c o m }
 
   -- what follows an operation of a run
-  abbrev pub follows : Way → ℕ → (ℕ → List (Met M)) → List (Met M)
-  follows (Faulted f) c rest = []
-  follows Next c rest = rest (c + 1)
-  follows (Jumped p) c rest = rest p
-  follows Stopped c rest = []
-  follows (Answered v) c rest = []
+  abbrev pub follows : Result Way Cause → ℕ → (ℕ → List (Met M)) → List (Met M)
+  follows (Ok Next) c rest = rest (c + 1)
+  follows (Ok (Jumped p)) c rest = rest p
+  follows _ c rest = []
 
   abbrev pub attempts : Bool → ℕ → Step → M → (ℕ → M → List (Met M)) → List (Met M)
   attempts false c o m rest = []
-  attempts true c o m rest = met c o m ∷ follows (act c o m).way c (λ c'. rest c' (act c o m).after)
+  attempts true c o m rest = met c o m ∷ follows (X.act c o m).way c (λ c'. rest c' (X.act c o m).after)
 
   -- of a run from counter c with k operations of the budget left
   abbrev pub trail_of_run : ℕ → List Step → ℕ → M → List (Met M)
@@ -77,36 +76,8 @@ module _ {M : Type 0} (act : ℕ → Step → M → Did M) (close : M → M) whe
   -- of a history
   abbrev pub trail : List HostCall → Driven M → List (Entry M)
   trail [] s = []
-  trail (q ∷ qs) s = entries_of q s ++ trail qs (handle act close q s).after
-
--- place i of a list
-abbrev pub at : {X : Type 0} → List X → ℕ → Option X
-at [] i = None
-at (x ∷ xs) zero = Some x
-at (x ∷ xs) (suc i) = at xs i
-
--- the first i of a list, the last of them first, before what is given
-abbrev pub back : {X : Type 0} → ℕ → List X → List X → List X
-back zero xs ys = ys
-back (suc i) [] ys = ys
-back (suc i) (x ∷ xs) ys = back i xs (x ∷ ys)
-
--- what was attempted before place i, the newest first
-abbrev pub earlier : {X : Type 0} → ℕ → List X → List X
-earlier i xs = back i xs []
-
--- all of it, the newest first
-abbrev pub whole : {X : Type 0} → List X → List X
-whole xs = earlier (length xs) xs
-
--- a step passed unless it faulted
-abbrev pub passing : Way → Bool
-passing (Faulted f) = false
-passing Next = true
-passing (Jumped p) = true
-passing Stopped = true
-passing (Answered v) = true
+  trail (q ∷ qs) s = entries_of q s ++ trail qs (handle X q s).after
 
 -- the address of an access
 abbrev pub target : {T H : Type 0} → State T H → Step → ℕ
-target m o = wrap (word m o.a + of_z w64 o.n)
+target m o = address m o.a (of_z w64 o.n)

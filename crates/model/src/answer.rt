@@ -1,23 +1,12 @@
-// What a host is answered.
+// What a host is answered, if its call is not refused.
 use crate::outcome::Outcome;
-use faults::fault::Fault;
 
-// A run that was refused or met a fault, with the operations done before it and their extra.
-#[derive(Clone, Copy)]
-pub struct RunFault {
-    pub fault: Fault,
-    pub done: u32,
-    pub extra: u64,
-}
-
-// The answer to a start, a run or a press, or why it was refused.
-#[derive(Clone, Copy)]
+// The answer to a start, a run or a press.
+#[derive(Clone, Copy, Debug, PartialEq, Eq)]
 pub enum Answer {
     Started,
-    // The operations done, their extra, and the outcome.
+    // The operations done, their extra, and the outcome: a run is to answer these three.
     Ran(u32, u64, Outcome),
     // What an out handed out, if it was one.
     Pressed(Option<u64>),
-    Refused(Fault),
-    RunRefused(RunFault),
 }

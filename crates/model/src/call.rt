@@ -2,7 +2,7 @@
 use operations::operation::Operation;
 use operations::program::Program;
 
-#[derive(Clone, Copy)]
+#[derive(Clone, Copy, Debug, PartialEq, Eq)]
 pub enum Action {
     // Begins at an entry.
     Start(u64),

@@ -6,6 +6,8 @@ pub mod call;
 pub mod laws;
 pub mod outcome;
 pub mod phase;
+pub mod refusal;
+pub mod register;
 pub mod sidecar;
 pub mod tables;
 pub mod way;

@@ -1,10 +1,7 @@
-// The way that an operation goes.
-use faults::cause::Cause;
+// The way that an operation goes, if its checks pass; else the cause stands in its place, and nothing was done.
 
-#[derive(Clone, Copy)]
+#[derive(Clone, Copy, Debug, PartialEq, Eq)]
 pub enum Way {
-    // A check failed, and nothing was done.
-    Faulted(Cause),
     // On to the next position.
     Next,
     // On to another position.

@@ -49,3 +49,7 @@ natural_in bs = natural (2 ^ 64 - 1) bs
 pub record WritesNatural (bs : List ℕ) (r : Option ℕ) : Type 0 where
   pub told : (n : ℕ) → r ≡ Some n → (bs ≡ decimal n) × (n < 2 ^ 64)
   pub tells : (n : ℕ) → bs ≡ decimal n → n < 2 ^ 64 → r ≡ Some n
+
+-- the noun that stands after a count
+abbrev pub noun : ℕ → List ℕ → List ℕ → List ℕ
+noun count one more = cond (count == 1) one more

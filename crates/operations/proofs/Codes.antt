@@ -1,5 +1,5 @@
 -- Numbers of operations: each stands for one operation. Assumes nothing.
-use Rattle.std.proofs.Common.{◌≡◌, ℕ, zero, suc, ◌+◌, Bool, true, ◌&&◌, eqb, List, [], ◌∷◌, map, get_or, Some, None, sym, refl, ap, ◌∙◌, arith}
+use Rattle.std.proofs.Common.{◌≡◌, ℕ, zero, suc, ◌+◌, Bool, true, ◌&&◌, eqb, List, [], ◌∷◌, slice_get, Some, sym, refl, ap, ◌∙◌, arith}
 use Rattle.std.proofs.lemmas.Bool.{and_parts, eqb-true}
 use Rattle.operations.specs.declared.code.Code.{Code}
 use Rattle.operations.specs.declared.code.Code.TheVariants.{Stop, Set, Copy, Add, Sub, Addi, Mul, Div, Less, Load, Store, Loadb, Storeb, Jump, Jzero, Call, Ret, Frame, Global, Grab, Release, Out}
@@ -35,9 +35,9 @@ unfoldable numbered : ℕ → List Code → Bool
 numbered base [] = true
 numbered base (c ∷ cs) = eqb (number_of c) base && numbered (suc base) cs
 
-number_in : (base : ℕ) (cs : List Code) (k : ℕ) (e : Code) → numbered base cs ≡ true → get_or (map Some cs) k None ≡ Some e → number_of e ≡ base + k
+number_in : (base : ℕ) (cs : List Code) (k : ℕ) (e : Code) → numbered base cs ≡ true → slice_get cs k ≡ Some e → number_of e ≡ base + k
 unfolding numbered
-number_in base [] k e h is = let z : ◌≡◌ {A = ℕ} 0 1 = cc in absurd (omega arith)
+number_in base [] k e h is = cc
 number_in base (c ∷ cs) zero e h is =
     let same : c ≡ e = cc in
     let first = eqb-true _ _ (and_parts (eqb (number_of c) base) _ h).0 in

@@ -1,6 +1,7 @@
 -- One record: what the check of its code and fields, and that of its target, say of it. Assumes nothing.
 use Rattle.std.proofs.Common.{◌≡◌, ℕ, ◌<◌, Bool, true, false, cond, ◌⊎◌, ℤ, pos, negsuc, Some, None, Ok, Err, Option, Result, sym, refl, ap, ◌∙◌, subst, inl, inr, arith}
-use Rattle.std.proofs.lemmas.Bool.{and_parts, and_from, both_ways, cond-true, cond-false, eqb-true, eq-eqb, ltb-true, lt-ltb}
+use Rattle.std.proofs.lemmas.Bool.{and_parts, and_from, both_ways, cond-true, cond-false}
+use Rattle.std.proofs.lemmas.Option.{cond_some}
 use Rattle.faults.specs.declared.cause.Cause.TheVariants.{BadRecord, BadTarget}
 use Rattle.faults.specs.declared.fault.Fault.{Fault}
 use Rattle.faults.specs.Faults.{fault_at}
@@ -16,17 +17,17 @@ use Rattle.operations.specs.Vetting.{vet_step, vet_record}
 use Rattle.operations.proofs.Codes.{number_back, number_found}
 
 field_told : (u : Bool) (r : ℕ) → field_fits u r ≡ true → Field u r
-field_told true r h = omega (arith, ltb-true r 16 h)
-field_told false r h = eqb-true r 0 h
+field_told true r h = grind arith
+field_told false r h = grind arith
 
 field_tells : (u : Bool) (r : ℕ) → Field u r → field_fits u r ≡ true
-field_tells true r h = lt-ltb r 16 (omega arith)
-field_tells false r h = eq-eqb r 0 h
+field_tells true r h = grind arith
+field_tells false r h = grind arith
 
 number_told : (u : Bool) (n : ℤ) → number_fits u n ≡ true → Number u n
 number_told true n h = tt
-number_told false (pos v) h = ap pos (eqb-true v 0 h)
-number_told false (negsuc v) h = absurd (both_ways false refl h)
+number_told false (pos v) h = grind arith
+number_told false (negsuc v) h = cc
 
 number_tells : (u : Bool) (n : ℤ) → Number u n → number_fits u n ≡ true
 number_tells true n h = refl
@@ -44,37 +45,30 @@ orderly o c is h =
     record { code = is; d = field_told _ _ first.0; a = field_told _ _ second.0; b = field_told _ _ third.0; n = number_told _ _ third.1 }
 
 inside_told : (count : ℕ) (n : ℤ) → inside n count ≡ true → (v : ℕ) × (n ≡ pos v) × (v < count)
-inside_told count (pos v) e = (v, refl, ltb-true v count e)
-inside_told count (negsuc v) e = absurd (both_ways false refl e)
+inside_told count (pos v) e = (v, refl, grind arith)
+inside_told count (negsuc v) e = cc
 
 within_told : (count : ℕ) (o : Operation) (c : Code) → target_fits count c o.n ≡ true → Within count o c
-within_told count o c h to = inside_told count o.n (sym (cond-true (leads c) (inside o.n count) true to) ∙ h)
+within_told count o c h to = inside_told count o.n (grind arith)
 
 within_tells : (count : ℕ) (o : Operation) (c : Code) → Within count o c → (t : Bool) → leads c ≡ t → target_fits count c o.n ≡ true
-within_tells count o c h true e =
-    let v = h e in
-    cond-true (leads c) (inside o.n count) true e ∙ ap (λ n. inside n count) v.1 ∙ lt-ltb v.0 count v.2
-within_tells count o c h false e = cond-false (leads c) (inside o.n count) true e
+within_tells count o c h true e = let v = h e in grind arith
+within_tells count o c h false e = grind arith
 
 -- a step that a record gave: its fields fit, and it is the record again
 pub record Gave (o : Operation) (s : Step) : Type 0 where
   pub fits : record_fits (row s.code).uses s.d s.a s.b s.n ≡ true
   pub back : plain s ≡ o
-  pub same : s ≡ step s.code o
 
-gave_if : (o : Operation) (s : Step) (c : Code) → o.code ≡ number_of c → (t : Bool) → record_fits (row c).uses o.d o.a o.b o.n ≡ t → cond (record_fits (row c).uses o.d o.a o.b o.n) (Some (step c o)) None ≡ Some s → Gave o s
-gave_if o s c is true fits h =
-    let first = cond-true _ (Some (step c o)) None fits in
-    let same : step c o ≡ s = cc in
-    let P : Step → Type 0 = λ x. Gave o x in
-    subst P same (record { fits = fits; back = ap (λ k. record { code = k; d = o.d; a = o.a; b = o.b; n = o.n; line = o.line }) (sym is); same = refl })
-gave_if o s c is false fits h =
-    let none = cond-false _ (Some (step c o)) None fits in
-    let z : ◌≡◌ {A = ℕ} 0 1 = cc in absurd (omega arith)
+-- a record whose number is an operation's is its step again
+back_of : (o : Operation) (c : Code) → code_at o.code ≡ Some c → plain (step c o) ≡ o
+back_of o c is = ap (λ k. record { code = k; d = o.d; a = o.a; b = o.b; n = o.n; line = o.line }) (sym (number_found o.code c is))
 
 gave_by : (o : Operation) (s : Step) (m : Option Code) → code_at o.code ≡ m → step_if m o ≡ Some s → Gave o s
-gave_by o s None e h = let z : ◌≡◌ {A = ℕ} 0 1 = cc in absurd (omega arith)
-gave_by o s (Some c) e h = gave_if o s c (number_found o.code c e) (record_fits (row c).uses o.d o.a o.b o.n) refl h
+gave_by o s None is h = cc
+gave_by o s (Some c) is h =
+    let told = cond_some _ _ _ h in
+    subst (λ x. Gave o x) told.1 (record { fits = told.0; back = back_of o c is })
 
 pub gave : (o : Operation) (s : Step) → step_of o ≡ Some s → Gave o s
 gave o s h = gave_by o s (code_at o.code) refl h
@@ -96,22 +90,26 @@ abbrev pub Told : ℕ → Operation → Result Step Fault → Type 0
 Told count o (Ok s) = (plain s ≡ o) × Fit count o
 Told count o (Err f) = Fails count o f
 
-told_step : (count : ℕ) (o : Operation) (s : Step) → Gave o s → (t : Bool) → target_fits count s.code s.n ≡ t → Told count o (cond (target_fits count s.code s.n) (Ok s) (Err (fault_at BadTarget o.line)))
-told_step count o s g true fits =
-    let is = orderly o s.code (sym (ap (λ x. x.code) g.back)) (let P : Operation → Type 0 = λ x. record_fits (row s.code).uses x.d x.a x.b x.n ≡ true in subst P g.back g.fits) in
-    let far = within_told count o s.code (ap (λ x. target_fits count s.code x.n) (sym g.back) ∙ fits) in
-    let P : Result Step Fault → Type 0 = λ r. Told count o r in
-    subst P (sym (cond-true _ (Ok s) (Err (fault_at BadTarget o.line)) fits)) (g.back, (s.code, is, far))
-told_step count o s g false fits =
-    let is = orderly o s.code (sym (ap (λ x. x.code) g.back)) (let P : Operation → Type 0 = λ x. record_fits (row s.code).uses x.d x.a x.b x.n ≡ true in subst P g.back g.fits) in
-    let never : Within count o s.code → ⊥ = λ w. both_ways _ fits (ap (λ x. target_fits count s.code x.n) g.back ∙ within_tells count o s.code w (leads s.code) refl) in
-    let P : Result Step Fault → Type 0 = λ r. Told count o r in
-    subst P (sym (cond-false _ (Ok s) (Err (fault_at BadTarget o.line)) fits)) (inr (s.code, is, never, refl))
+told_refused : (count : ℕ) (o : Operation) → step_of o ≡ None → Told count o (vet_record count o)
+told_refused count o none =
+    subst (λ m. Told count o (vet_step count o.line m)) (sym none) (inl ((λ c is. let found = orderly_gives o c is in cc), refl))
 
-told_by : (count : ℕ) (o : Operation) (m : Option Step) → step_of o ≡ m → Told count o (vet_step count o.line m)
-told_by count o None e =
-    inl ((λ c is. let found = orderly_gives o c is in let z : ◌≡◌ {A = ℕ} 0 1 = cc in absurd (omega arith)), refl)
-told_by count o (Some s) e = told_step count o s (gave o s e) (target_fits count s.code s.n) refl
+told_target : (count : ℕ) (o : Operation) (c : Code) → plain (step c o) ≡ o → Orderly o c → (t : Bool) → target_fits count c o.n ≡ t → Told count o (cond t (Ok (step c o)) (Err (fault_at BadTarget o.line)))
+told_target count o c back is true to = (back, (c, is, within_told count o c to))
+told_target count o c back is false to =
+    inr (c, is, (λ w. both_ways _ to (within_tells count o c w (leads c) refl)), refl)
+
+told_by : (count : ℕ) (o : Operation) (c : Code) → code_at o.code ≡ Some c → (t : Bool) → record_fits (row c).uses o.d o.a o.b o.n ≡ t → Told count o (vet_record count o)
+told_by count o c is true fits =
+    let found : step_of o ≡ Some (step c o) = ap (λ m. step_if m o) is ∙ cond-true _ (Some (step c o)) None fits in
+    subst (λ m. Told count o (vet_step count o.line m)) (sym found)
+    (told_target count o c (back_of o c is) (orderly o c (number_found o.code c is) fits) (target_fits count c o.n) refl)
+told_by count o c is false fits =
+    told_refused count o (ap (λ m. step_if m o) is ∙ cond-false _ (Some (step c o)) None fits)
+
+told_at : (count : ℕ) (o : Operation) (m : Option Code) → code_at o.code ≡ m → Told count o (vet_record count o)
+told_at count o None is = told_refused count o (ap (λ m. step_if m o) is)
+told_at count o (Some c) is = told_by count o c is (record_fits (row c).uses o.d o.a o.b o.n) refl
 
 pub told : (count : ℕ) (o : Operation) → Told count o (vet_record count o)
-told count o = told_by count o (step_of o) refl
+told count o = told_at count o (code_at o.code) refl

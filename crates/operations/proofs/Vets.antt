@@ -1,7 +1,7 @@
 -- Vetting a list of records: the law, record by record. Assumes nothing.
 use Rattle.std.proofs.Common.{◌≡◌, ℕ, ◌+◌, ◌<◌, ◌≤◌, true, false, eqb, ltb, List, [], ◌∷◌, ◌++◌, map, length, get_or, take, drop, Ok, Err, Result, sym, refl, ap, ◌∙◌, subst, inl, inr, ⊎_elim, arith, below_more}
 use Rattle.std.proofs.lemmas.List.{length-drop, drop_more, at_drop_more, take_more, take_all, map_push}
-use Rattle.std.proofs.lemmas.Bool.{cond-true, cond-false, eqb-true, eqb-false, ltb-true, ltb-false, ne_eqb, le-ltb, cases_Bool}
+use Rattle.std.proofs.lemmas.Bool.{cond-true, cond-false, eqb-true, eqb-false, ltb-true, ltb-false, le-ltb, cases_Bool}
 use Rattle.faults.specs.declared.cause.Cause.TheVariants.{NoOperation, NoRoom}
 use Rattle.faults.specs.declared.fault.Fault.{Fault}
 use Rattle.faults.specs.Faults.{whole_fault}
@@ -70,8 +70,8 @@ module _ (ops : List Operation) (some : 0 < length ops) (few : length ops ≤ 51
       on_by o os i done lt same below (λ d. let s = split d in cc) (let s = split o in cc) (λ j done'. on_law os j done') (vet_record (length ops) o) refl (told (length ops) o)
 
 -- where the number of records is right, vetting goes record by record
-pub vetting_on : (ops : List Operation) → (length ops ≡ 0 → ⊥) → length ops ≤ 512 → vetting ops ≡ vet_on (length ops) [] ops
-vetting_on ops some few = rw (ne_eqb (length ops) 0 some, le-ltb 512 (length ops) few)
+pub vetting_on : (ops : List Operation) → eqb (length ops) 0 ≡ false → length ops ≤ 512 → vetting ops ≡ vet_on (length ops) [] ops
+vetting_on ops some few = rw (some, le-ltb 512 (length ops) few)
 
 -- the law of vetting
 pub vetting_law : (ops : List Operation) → Vetted ops (vetting ops)
@@ -88,3 +88,7 @@ vetting_law ops =
     (on_law ops any (ltb-false _ _ few) ops 0 [] (omega arith) refl (λ k h d. absurd (omega arith)) refl))
     (cases_Bool (ltb 512 (length ops)))))
     (cases_Bool (eqb (length ops) 0))
+
+-- what is the answer of vetting keeps the law
+pub vetted : (ops : List Operation) (r : Result (List Step) Fault) → r ≡ vetting ops → Vetted ops r
+vetted ops r e = subst (λ x. Vetted ops x) (sym e) (vetting_law ops)

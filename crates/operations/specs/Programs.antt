@@ -1,27 +1,14 @@
--- A vetted program by its steps, and the law of vetting. Assumes nothing.
-use Rattle.std.specs.Prelude.{◌≡◌, ℕ, ◌<◌, ◌≤◌, Bool, true, false, ◌⊎◌, List, map, length, take, ℤ, pos, Some, None, Ok, Err, Option, Result, slice_index_or}
+-- The law of vetting. Assumes nothing.
+use Rattle.std.specs.Prelude.{◌≡◌, ℕ, ◌<◌, ◌≤◌, Bool, true, false, ◌⊎◌, List, map, length, ℤ, pos, Ok, Err, Result, slice_index_or}
 use Rattle.faults.specs.declared.cause.Cause.TheVariants.{NoOperation, NoRoom, BadRecord, BadTarget}
 use Rattle.faults.specs.declared.fault.Fault.{Fault}
 use Rattle.faults.specs.Faults.{fault_at, whole_fault}
 use Rattle.operations.specs.declared.code.Code.{Code}
 use Rattle.operations.specs.declared.operation.Operation.{Operation}
-use Rattle.operations.specs.declared.program.Program.{Program}
 use Rattle.operations.specs.declared.step.Step.{Step}
 use Rattle.operations.specs.Records.{plain}
 use Rattle.operations.specs.Sound.{leads}
 use Rattle.operations.specs.Table.{row, number_of}
-
--- the steps of a program
-abbrev pub steps_of : Program → List Step
-steps_of p = take p.count p.steps
-
--- the step at a position
-abbrev pub step_at : Program → ℕ → Option Step
-step_at p i = slice_index_or (map Some (steps_of p)) i None
-
-abbrev pub steps_in : Result Program Fault → Result (List Step) Fault
-steps_in (Ok p) = Ok (steps_of p)
-steps_in (Err f) = Err f
 
 -- a register field as the table wants it: 0 to 15, or 0 where it is not used
 abbrev pub Field : Bool → ℕ → Type 0

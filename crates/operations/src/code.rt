@@ -1,12 +1,18 @@
 // The 22 operations: one table of word, used columns and extra, which reading, vetting and running all go by.
-ghost use Rattle.std.specs.Prelude.{◌≡◌};
-ghost use Rattle.operations.specs.Table.{row, number_of, code_at, code_of, guessed, Tells};
+ghost use Rattle.std.specs.Prelude.{◌≡◌, slice_get};
+ghost use Rattle.std.specs.List.{find};
+ghost use Rattle.std.specs.Result.{result_ok};
+ghost use Rattle.std.specs.Str.{bytes_eq};
+ghost use Rattle.operations.specs.Sound.{leads};
+ghost use Rattle.operations.specs.Table.{row, number_of, code_at, code_of, Tells};
 
+use crate::unknown::{UnknownCode, UnknownWord};
 use crate::uses::Uses;
 
 // What a module may do, in the order of the numbers that stand for it.
-#[derive(Clone, Copy, Debug, PartialEq, Eq)]
+#[derive(Clone, Copy, Debug, Default, PartialEq, Eq)]
 pub enum Code {
+    #[default]
     Stop,
     Set,
     Copy,
@@ -31,8 +37,17 @@ pub enum Code {
     Out,
 }
 
+// The operations by their numbers.
+#[rattlefmt::skip]
+const EVERY: [Code; 22] = [
+    Code::Stop, Code::Set, Code::Copy, Code::Add, Code::Sub, Code::Addi, Code::Mul, Code::Div,
+    Code::Less, Code::Load, Code::Store, Code::Loadb, Code::Storeb,
+    Code::Jump, Code::Jzero, Code::Call, Code::Ret, Code::Frame, Code::Global,
+    Code::Grab, Code::Release, Code::Out,
+];
+
 // A row of the table: the word in a text, the columns in use, and how many micro-operations are counted as put in.
-#[derive(Clone, Copy)]
+#[derive(Clone, Copy, Debug, PartialEq, Eq)]
 pub struct Row {
     pub word: &'static str,
     pub uses: Uses,
@@ -46,61 +61,21 @@ const NONE: Uses = Uses {
     n: false,
 };
 
-const A: Uses = Uses {
-    d: false,
-    a: true,
-    b: false,
-    n: false,
-};
+const A: Uses = Uses { a: true, ..NONE };
 
-const N: Uses = Uses {
-    d: false,
-    a: false,
-    b: false,
-    n: true,
-};
+const N: Uses = Uses { n: true, ..NONE };
 
-const AN: Uses = Uses {
-    d: false,
-    a: true,
-    b: false,
-    n: true,
-};
+const AN: Uses = Uses { n: true, ..A };
 
-const DA: Uses = Uses {
-    d: true,
-    a: true,
-    b: false,
-    n: false,
-};
+const DA: Uses = Uses { d: true, ..A };
 
-const DN: Uses = Uses {
-    d: true,
-    a: false,
-    b: false,
-    n: true,
-};
+const DN: Uses = Uses { d: true, ..N };
 
-const ABN: Uses = Uses {
-    d: false,
-    a: true,
-    b: true,
-    n: true,
-};
+const ABN: Uses = Uses { b: true, ..AN };
 
-const DAB: Uses = Uses {
-    d: true,
-    a: true,
-    b: true,
-    n: false,
-};
+const DAB: Uses = Uses { b: true, ..DA };
 
-const DAN: Uses = Uses {
-    d: true,
-    a: true,
-    b: false,
-    n: true,
-};
+const DAN: Uses = Uses { n: true, ..DA };
 
 impl Code {
     #[rattlefmt::skip]
@@ -133,88 +108,64 @@ impl Code {
         }
     }
 
-    // The number that stands for the operation in a record.
-    pub fn number(self) -> u8
-        ensures { result ≡ number_of self }
+    // Whether the word of a text is the operation's.
+    fn is_named(self, word: &[u8]) -> bool
+        ensures { result ≡ bytes_eq word.now (row self).word }
     {
-        self as u8
+        word == self.row().word.as_bytes()
     }
 
-    // The operation that a record's number stands for.
-    pub fn of(number: u8) -> Option<Code>
-        ensures { result ≡ code_at number }
+    // Whether n is the position that the operation goes to.
+    pub(crate) fn has_target(self) -> bool
+        ensures { result ≡ leads self }
     {
-        match number {
-            0 => Some(Code::Stop),
-            1 => Some(Code::Set),
-            2 => Some(Code::Copy),
-            3 => Some(Code::Add),
-            4 => Some(Code::Sub),
-            5 => Some(Code::Addi),
-            6 => Some(Code::Mul),
-            7 => Some(Code::Div),
-            8 => Some(Code::Less),
-            9 => Some(Code::Load),
-            10 => Some(Code::Store),
-            11 => Some(Code::Loadb),
-            12 => Some(Code::Storeb),
-            13 => Some(Code::Jump),
-            14 => Some(Code::Jzero),
-            15 => Some(Code::Call),
-            16 => Some(Code::Ret),
-            17 => Some(Code::Frame),
-            18 => Some(Code::Global),
-            19 => Some(Code::Grab),
-            20 => Some(Code::Release),
-            21 => Some(Code::Out),
-            _ => None,
-        }
-    }
-
-    // The operation that a text's word names.
-    pub fn of_word(word: &[u8]) -> Option<Code>
-        ensures { result ≡ code_of word.now }
-    {
-        let code = guess(word);
-        if word == code.row().word.as_bytes() {
-            Some(code)
-        } else {
-            None
-        }
+        matches!(self, Code::Jump | Code::Jzero | Code::Call)
     }
 }
 
-// The only operation that the word can name: its first two letters and its length tell the words apart, so that one comparison is enough.
-fn guess(word: &[u8]) -> Code
-    ensures { result ≡ guessed word.now }
+// The number that stands for the operation in a record.
+impl From<Code> for u8 {
+    ghost from_gives = { λ code number. number ≡ number_of code };
+
+    fn from(code: Code) -> u8 {
+        code as u8
+    }
+}
+
+// The operation that a record's number stands for.
+impl TryFrom<u8> for Code {
+    type Error = UnknownCode;
+
+    ghost try_from_gives = { λ number r. result_ok r ≡ code_at number };
+
+    fn try_from(number: u8) -> Result<Code, UnknownCode> {
+        numbered(&EVERY, number).ok_or(UnknownCode)
+    }
+}
+
+// The operation that a text's word names.
+impl TryFrom<&[u8]> for Code {
+    type Error = UnknownWord;
+
+    ghost try_from_gives = { λ word r. result_ok r ≡ code_of word.now };
+
+    #[tactic(auto, unfolding(crate::specs::Table::code_of))]
+    fn try_from(word: &[u8]) -> Result<Code, UnknownWord> {
+        first_named(&EVERY, word).ok_or(UnknownWord)
+    }
+}
+
+// The operation that has the number among these. The list is a parameter, here and below, since the proof is over any.
+fn numbered(codes: &[Code], number: u8) -> Option<Code>
+    ensures { result ≡ slice_get codes.now number }
 {
-    if word.len() < 2 {
-        return Code::Out;
-    }
-    let second = word[1];
-    let length = word.len();
-    match word[0] {
-        b'a' if length == 3 => Code::Add,
-        b'a' => Code::Addi,
-        b'c' if second == b'o' => Code::Copy,
-        b'c' => Code::Call,
-        b'd' => Code::Div,
-        b'f' => Code::Frame,
-        b'g' if second == b'l' => Code::Global,
-        b'g' => Code::Grab,
-        b'j' if second == b'u' => Code::Jump,
-        b'j' => Code::Jzero,
-        b'l' if second == b'e' => Code::Less,
-        b'l' if length == 4 => Code::Load,
-        b'l' => Code::Loadb,
-        b'm' => Code::Mul,
-        b'r' if length == 3 => Code::Ret,
-        b'r' => Code::Release,
-        b's' if second == b'e' => Code::Set,
-        b's' if second == b'u' => Code::Sub,
-        b's' if length == 4 => Code::Stop,
-        b's' if length == 5 => Code::Store,
-        b's' => Code::Storeb,
-        _ => Code::Out,
-    }
+    codes.get(usize::from(number)).copied()
+}
+
+// The first of the operations that the word names. Guessing it by letters and length first read a text 3 to 10 in a hundred
+// faster, and had a definition of its own to prove.
+fn first_named(codes: &[Code], word: &[u8]) -> Option<Code>
+    ensures { result ≡ find (λ code. bytes_eq word.now (row code).word) codes.now }
+{
+    codes.iter().copied().find(|code| code.is_named(word))
 }

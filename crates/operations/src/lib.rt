@@ -6,6 +6,6 @@ pub mod listing;
 pub mod operation;
 pub mod program;
 pub mod step;
-pub mod steps;
+pub mod unknown;
 pub mod uses;
 pub mod vetting;

@@ -2,27 +2,26 @@
 ghost use Rattle.std.specs.Prelude.{Some};
 ghost use Rattle.operations.specs.Listing.{listed, field_shown};
 
+use crate::code::Row;
 use crate::step::Step;
 use std::fmt;
 
 // A field by its column, shown only where it is used.
 #[derive(Clone, Copy)]
 struct Field {
-    used: bool,
     column: char,
-    value: i64,
+    value: Option<i64>,
 }
 
 impl fmt::Display for Field {
-    ghost output = { λ x. Some (field_shown x.used x.column x.value) };
+    ghost output = { λ x. Some (field_shown x.column x.value) };
 
     fn fmt<W: fmt::Write>(&self, f: &mut fmt::Formatter<W>) -> fmt::Result {
-        if !self.used {
-            return Ok(());
-        }
         let column = self.column;
-        let value = self.value;
-        write!(f, " {column}={value}")
+        match self.value {
+            Some(value) => write!(f, " {column}={value}"),
+            None => Ok(()),
+        }
     }
 }
 
@@ -30,27 +29,22 @@ impl fmt::Display for Step {
     ghost output = { λ s. Some (listed s) };
 
     fn fmt<W: fmt::Write>(&self, f: &mut fmt::Formatter<W>) -> fmt::Result {
-        let row = self.code.row();
-        let word = row.word;
+        let Row { word, uses, .. } = self.code.row();
         let d = Field {
-            used: row.uses.d,
             column: 'd',
-            value: i64::from(self.d),
+            value: uses.d.then_some(i64::from(self.d)),
         };
         let a = Field {
-            used: row.uses.a,
             column: 'a',
-            value: i64::from(self.a),
+            value: uses.a.then_some(i64::from(self.a)),
         };
         let b = Field {
-            used: row.uses.b,
             column: 'b',
-            value: i64::from(self.b),
+            value: uses.b.then_some(i64::from(self.b)),
         };
         let n = Field {
-            used: row.uses.n,
             column: 'n',
-            value: self.n,
+            value: uses.n.then_some(self.n),
         };
         write!(f, "{word}{d}{a}{b}{n}")
     }

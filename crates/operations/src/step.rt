@@ -1,13 +1,16 @@
 // An operation whose record has passed the check of its code and fields.
-ghost use Rattle.std.specs.Prelude.{◌≡◌, IfSome};
-ghost use Rattle.operations.specs.Records.{field_fits, number_fits, record_fits, step_of, Registers};
+ghost use Rattle.std.specs.Prelude.{◌≡◌, IfOk};
+ghost use Rattle.std.specs.Result.{result_ok};
+ghost use Rattle.operations.specs.Records.{step_of, Registers};
+ghost use Rattle.operations.specs.Sound.{inside, target_fits};
 
 use crate::code::Code;
 use crate::operation::Operation;
-use crate::uses::Uses;
+use crate::unknown::UnfitRecord;
 
-// The fields of a record, with its number decoded.
-#[derive(Clone, Copy, Debug, PartialEq, Eq)]
+// The fields of a record, with its number decoded. Not one type with the record, over what the code is: a record has any
+// numbers and a step has passed a check, so what is made of one is not to be taken for the other.
+#[derive(Clone, Copy, Debug, Default, PartialEq, Eq)]
 pub struct Step {
     pub code: Code,
     pub d: u8,
@@ -17,15 +20,17 @@ pub struct Step {
     pub line: u32,
 }
 
-const REGISTERS: u8 = 16;
+// The record as a step, unless its code is unknown, a register in use is above 15, or a field not in use is not 0.
+impl TryFrom<&Operation> for Step {
+    type Error = UnfitRecord;
 
-impl Step {
-    // The record as a step, unless its code is unknown, a register in use is above 15, or a field not in use is not 0.
-    pub fn of(operation: &Operation) -> Option<Step>
-        ensures value { result ≡ step_of operation.now }
-        ensures registers { IfSome result (λ s. Registers s) }
-    {
-        let code = Code::of(operation.code)?;
+    ghost try_from_gives = { λ operation r. (result_ok r ≡ step_of operation.now) × IfOk r (λ s. Registers s) };
+
+    fn try_from(operation: &Operation) -> Result<Step, UnfitRecord> {
+        let code = Code::try_from(operation.code)?;
+        if !operation.fits(code.row().uses) {
+            return Err(UnfitRecord);
+        }
         let Operation {
             d,
             a,
@@ -34,42 +39,28 @@ impl Step {
             line,
             ..
         } = *operation;
-        if fields_fit(code.row().uses, d, a, b, n) {
-            Some(Step {
-                code,
-                d,
-                a,
-                b,
-                n,
-                line,
-            })
-        } else {
-            None
-        }
+        Ok(Step {
+            code,
+            d,
+            a,
+            b,
+            n,
+            line,
+        })
     }
 }
 
-fn fields_fit(uses: Uses, d: u8, a: u8, b: u8, n: i64) -> bool
-    ensures { result ≡ record_fits uses d a b n }
-{
-    register_fits(uses.d, d)
-        && register_fits(uses.a, a)
-        && register_fits(uses.b, b)
-        && number_fits(uses.n, n)
-}
-
-fn register_fits(used: bool, register: u8) -> bool
-    ensures { result ≡ field_fits used register }
-{
-    if used {
-        register < REGISTERS
-    } else {
-        register == 0
+impl Step {
+    // Whether the step goes nowhere, or to a position of a program of so many.
+    pub(crate) fn stays_within(self, count: usize) -> bool
+        ensures { result ≡ target_fits count self.code self.n }
+    {
+        !self.code.has_target() || reaches(self.n, count)
     }
 }
 
-fn number_fits(used: bool, n: i64) -> bool
-    ensures { result ≡ number_fits used n }
+fn reaches(n: i64, count: usize) -> bool
+    ensures { result ≡ inside n count }
 {
-    used || n == 0
+    usize::try_from(n).is_ok_and(|position| position < count)
 }

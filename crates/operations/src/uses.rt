@@ -1,5 +1,5 @@
 // The columns that an operation uses; it leaves the others blank in a text, and 0 in a record.
-#[derive(Clone, Copy)]
+#[derive(Clone, Copy, Debug, Default, PartialEq, Eq)]
 pub struct Uses {
     pub d: bool,
     pub a: bool,

@@ -16,7 +16,7 @@ pub const UNREAD: Operation = Operation {
     line: 5,
 };
 
-// The short form of a fault. Each fault of reading and vetting is of the part text, so another part answers a number that no row has.
+// The short form of a fault. Each fault of reading and vetting is of the part text, so another part answers a number that no row has; an Option for it would stand in every row.
 pub fn told(fault: Fault) -> (u8, u32) {
     let number = if fault.part() == Part::Text {
         fault.number()

@@ -1,18 +1,11 @@
 // The 22 operations: their words, numbers, used columns and extra, and records of them.
-use operations::code::Code;
+use operations::code::{Code, Row};
 use operations::operation::Operation;
 use operations::step::Step;
+use operations::unknown::{UnfitRecord, UnknownCode, UnknownWord};
 use operations::uses::Uses;
 use std::process::Abort;
 use std::test::Fail;
-
-// A word, the columns that it uses, and its extra; its place in the table is its number.
-#[derive(Clone, Copy)]
-struct Known {
-    word: &'static str,
-    uses: Uses,
-    extra: u8,
-}
 
 const NONE: Uses = Uses {
     d: false,
@@ -21,86 +14,47 @@ const NONE: Uses = Uses {
     n: false,
 };
 
-const A: Uses = Uses {
-    d: false,
-    a: true,
-    b: false,
-    n: false,
-};
+const A: Uses = Uses { a: true, ..NONE };
 
-const N: Uses = Uses {
-    d: false,
-    a: false,
-    b: false,
-    n: true,
-};
+const N: Uses = Uses { n: true, ..NONE };
 
-const AN: Uses = Uses {
-    d: false,
-    a: true,
-    b: false,
-    n: true,
-};
+const AN: Uses = Uses { n: true, ..A };
 
-const DA: Uses = Uses {
-    d: true,
-    a: true,
-    b: false,
-    n: false,
-};
+const DA: Uses = Uses { d: true, ..A };
 
-const DN: Uses = Uses {
-    d: true,
-    a: false,
-    b: false,
-    n: true,
-};
+const DN: Uses = Uses { d: true, ..N };
 
-const ABN: Uses = Uses {
-    d: false,
-    a: true,
-    b: true,
-    n: true,
-};
+const ABN: Uses = Uses { b: true, ..AN };
 
-const DAB: Uses = Uses {
-    d: true,
-    a: true,
-    b: true,
-    n: false,
-};
+const DAB: Uses = Uses { b: true, ..DA };
 
-const DAN: Uses = Uses {
-    d: true,
-    a: true,
-    b: false,
-    n: true,
-};
+const DAN: Uses = Uses { n: true, ..DA };
 
+// Its place in the table is the number of an operation.
 #[rattlefmt::skip]
-const TABLE: [Known; 22] = [
-    Known { word: "stop", uses: NONE, extra: 0 },
-    Known { word: "set", uses: DN, extra: 0 },
-    Known { word: "copy", uses: DA, extra: 0 },
-    Known { word: "add", uses: DAB, extra: 1 },
-    Known { word: "sub", uses: DAB, extra: 0 },
-    Known { word: "addi", uses: DAN, extra: 0 },
-    Known { word: "mul", uses: DAB, extra: 0 },
-    Known { word: "div", uses: DAB, extra: 0 },
-    Known { word: "less", uses: DAB, extra: 0 },
-    Known { word: "load", uses: DAN, extra: 2 },
-    Known { word: "store", uses: ABN, extra: 2 },
-    Known { word: "loadb", uses: DAN, extra: 1 },
-    Known { word: "storeb", uses: ABN, extra: 1 },
-    Known { word: "jump", uses: N, extra: 0 },
-    Known { word: "jzero", uses: AN, extra: 0 },
-    Known { word: "call", uses: N, extra: 4 },
-    Known { word: "ret", uses: NONE, extra: 4 },
-    Known { word: "frame", uses: DN, extra: 0 },
-    Known { word: "global", uses: DN, extra: 0 },
-    Known { word: "grab", uses: DA, extra: 1 },
-    Known { word: "release", uses: A, extra: 1 },
-    Known { word: "out", uses: A, extra: 0 },
+const TABLE: [Row; 22] = [
+    Row { word: "stop", uses: NONE, extra: 0 },
+    Row { word: "set", uses: DN, extra: 0 },
+    Row { word: "copy", uses: DA, extra: 0 },
+    Row { word: "add", uses: DAB, extra: 1 },
+    Row { word: "sub", uses: DAB, extra: 0 },
+    Row { word: "addi", uses: DAN, extra: 0 },
+    Row { word: "mul", uses: DAB, extra: 0 },
+    Row { word: "div", uses: DAB, extra: 0 },
+    Row { word: "less", uses: DAB, extra: 0 },
+    Row { word: "load", uses: DAN, extra: 2 },
+    Row { word: "store", uses: ABN, extra: 2 },
+    Row { word: "loadb", uses: DAN, extra: 1 },
+    Row { word: "storeb", uses: ABN, extra: 1 },
+    Row { word: "jump", uses: N, extra: 0 },
+    Row { word: "jzero", uses: AN, extra: 0 },
+    Row { word: "call", uses: N, extra: 4 },
+    Row { word: "ret", uses: NONE, extra: 4 },
+    Row { word: "frame", uses: DN, extra: 0 },
+    Row { word: "global", uses: DN, extra: 0 },
+    Row { word: "grab", uses: DA, extra: 1 },
+    Row { word: "release", uses: A, extra: 1 },
+    Row { word: "out", uses: A, extra: 0 },
 ];
 
 // Words that no operation has, most of them near one that has.
@@ -110,21 +64,13 @@ const STRANGE: [&[u8]; 18] = [
     b"\xf3stop",
 ];
 
-fn check_word(rt: &impl Abort, known: &Known, number: u8) -> Result<(), Fail> {
-    let code = Code::of(number).ok_or("no such code")?;
-    assert_eq!(rt; code.number(), number, "operation {number}");
-    assert_eq!(rt; code.row().word, known.word, "operation {number}");
-    for column in 0..4 {
-        assert_eq!(rt;
-            is_used(code.row().uses, column),
-            is_used(known.uses, column),
-            "operation {number}"
-        );
-    }
-    assert_eq!(rt; code.row().extra, known.extra, "operation {number}");
+fn check_word(rt: &impl Abort, row: &Row, number: u8) -> Result<(), Fail> {
+    let code = Code::try_from(number).map_err(|_| "no such code")?;
+    assert_eq!(rt; u8::from(code), number, "operation {number}");
+    assert_eq!(rt; code.row(), *row, "operation {number}");
     assert_eq!(rt;
-        Code::of_word(known.word.as_bytes()),
-        Some(code),
+        Code::try_from(row.word.as_bytes()),
+        Ok(code),
         "operation {number}"
     );
     Ok(())
@@ -132,67 +78,53 @@ fn check_word(rt: &impl Abort, known: &Known, number: u8) -> Result<(), Fail> {
 
 #[test]
 fn words(rt: HostRuntime) -> Result<(), Fail> {
-    for i in 0..22u8 {
-        check_word(&rt, &TABLE[i as usize], i)?;
+    for (number, row) in (0..22u8).zip(&TABLE) {
+        check_word(&rt, row, number)?;
     }
-    assert_eq!(rt; Code::of(22), None);
-    assert_eq!(rt; Code::of(255), None);
-    for i in 0..STRANGE.len() {
-        assert_eq!(rt; Code::of_word(STRANGE[i]), None, "strange word {i}");
+    assert_eq!(rt; Code::try_from(22), Err(UnknownCode));
+    assert_eq!(rt; Code::try_from(255), Err(UnknownCode));
+    for (i, word) in STRANGE.iter().enumerate() {
+        assert_eq!(rt; Code::try_from(*word), Err(UnknownWord), "strange word {i}");
     }
     Ok(())
 }
 
 fn decodes(operation: Operation) -> bool {
-    Step::of(&operation).is_some()
+    Step::try_from(&operation).is_ok()
 }
 
-// The record with another value in d, a, b or n.
-fn with_field(record: Operation, column: usize, value: u8) -> Operation {
-    match column {
-        0 => Operation { d: value, ..record },
-        1 => Operation { a: value, ..record },
-        2 => Operation { b: value, ..record },
-        _ => Operation {
+// The record with another value in each of d, a, b and n in turn.
+fn with_each(record: Operation, value: u8) -> [Operation; 4] {
+    [
+        Operation { d: value, ..record },
+        Operation { a: value, ..record },
+        Operation { b: value, ..record },
+        Operation {
             n: i64::from(value),
             ..record
         },
-    }
-}
-
-fn is_used(uses: Uses, column: usize) -> bool {
-    match column {
-        0 => uses.d,
-        1 => uses.a,
-        2 => uses.b,
-        _ => uses.n,
-    }
+    ]
 }
 
 // A used register takes 0 to 15, n takes any number, and an unused field takes only 0.
-fn check_fields(rt: &impl Abort, known: &Known, number: u8) -> Result<(), Fail> {
+fn check_fields(rt: &impl Abort, uses: Uses, number: u8) -> Result<(), Fail> {
     let full = Operation {
         code: number,
-        d: 0,
-        a: 0,
-        b: 0,
-        n: 0,
         line: 2,
+        ..Operation::default()
     };
+    let Uses { d, a, b, n } = uses;
     assert!(rt; decodes(full), "operation {number}");
-    for column in 0..4 {
-        let used = is_used(known.uses, column);
-        assert_eq!(rt;
-            decodes(with_field(full, column, 15)),
-            used,
-            "operation {number}"
-        );
-        assert_eq!(rt;
-            decodes(with_field(full, column, 16)),
-            used && column == 3,
-            "operation {number}"
-        );
-    }
+    assert_eq!(rt;
+        with_each(full, 15).map(decodes),
+        [d, a, b, n],
+        "operation {number}"
+    );
+    assert_eq!(rt;
+        with_each(full, 16).map(decodes),
+        [false, false, false, n],
+        "operation {number}"
+    );
     assert!(rt;
         !decodes(Operation { code: 22, ..full }),
         "operation {number}"
@@ -202,8 +134,30 @@ fn check_fields(rt: &impl Abort, known: &Known, number: u8) -> Result<(), Fail> 
 
 #[test]
 fn fields(rt: HostRuntime) -> Result<(), Fail> {
-    for i in 0..22u8 {
-        check_fields(&rt, &TABLE[i as usize], i)?;
+    for (number, row) in (0..22u8).zip(&TABLE) {
+        check_fields(&rt, row.uses, number)?;
     }
+    Ok(())
+}
+
+#[test]
+fn refusals(rt: HostRuntime) -> Result<(), Fail> {
+    let unfit = Operation {
+        code: 22,
+        ..Operation::default()
+    };
+    assert_eq!(rt; Step::try_from(&unfit), Err(UnfitRecord));
+    assert_eq!(rt;
+        UnknownCode.to_string(rt.alloc())?.as_str(),
+        "no operation has this number"
+    );
+    assert_eq!(rt;
+        UnknownWord.to_string(rt.alloc())?.as_str(),
+        "no operation has this word"
+    );
+    assert_eq!(rt;
+        UnfitRecord.to_string(rt.alloc())?.as_str(),
+        "the record is of no operation"
+    );
     Ok(())
 }

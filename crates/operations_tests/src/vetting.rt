@@ -25,10 +25,9 @@ const STOP: Operation = Operation {
 const SET: Operation = Operation {
     code: 1,
     d: 15,
-    a: 0,
-    b: 0,
     n: -1,
     line: 71,
+    ..STOP
 };
 
 const ADD: Operation = Operation {
@@ -36,35 +35,27 @@ const ADD: Operation = Operation {
     d: 15,
     a: 15,
     b: 15,
-    n: 0,
     line: 72,
+    ..STOP
 };
 
 const JUMP: Operation = Operation {
     code: 13,
-    d: 0,
-    a: 0,
-    b: 0,
-    n: 0,
     line: 73,
+    ..STOP
 };
 
 const JZERO: Operation = Operation {
     code: 14,
-    d: 0,
     a: 1,
-    b: 0,
-    n: 0,
     line: 74,
+    ..STOP
 };
 
 const CALL: Operation = Operation {
     code: 15,
-    d: 0,
-    a: 0,
-    b: 0,
-    n: 0,
     line: 75,
+    ..STOP
 };
 
 #[rattlefmt::skip]
@@ -113,8 +104,10 @@ fn answer_of(rt: &impl Abort, records: &[Operation]) -> Result<Answer, Fail> {
     match vet(records) {
         Ok(program) => {
             assert_eq!(rt; program.len(), records.len());
-            for i in 0..records.len() {
-                assert_eq!(rt; program.get(i), Step::of(&records[i]), "step {i}");
+            assert_eq!(rt; program.steps().len(), records.len());
+            for (i, (step, record)) in program.steps().iter().zip(records).enumerate() {
+                assert_eq!(rt; Ok(*step), Step::try_from(record), "step {i}");
+                assert_eq!(rt; program.get(i), Some(*step), "step {i}");
             }
             assert_eq!(rt; program.get(records.len()), None);
             Ok(Ok(records.len()))
@@ -124,12 +117,8 @@ fn answer_of(rt: &impl Abort, records: &[Operation]) -> Result<Answer, Fail> {
 }
 
 fn check_all(rt: &impl Abort, cases: &[Case]) -> Result<(), Fail> {
-    for i in 0..cases.len() {
-        assert_eq!(rt;
-            answer_of(rt, cases[i].records)?,
-            cases[i].answer,
-            "case {i}"
-        );
+    for (i, case) in cases.iter().enumerate() {
+        assert_eq!(rt; answer_of(rt, case.records)?, case.answer, "case {i}");
     }
     Ok(())
 }

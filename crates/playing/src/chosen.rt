@@ -2,29 +2,26 @@
 ghost use Rattle.playing.specs.Chosen.{NewHeap, NewDirect, NewRack};
 
 use best_fit::heap::BestFit;
-use choices::heap::HeapChoice;
-use choices::rack::RackChoice;
+use choices::choice::Choice;
 use quarantine::heap::Quarantine;
 use racks::ring::RingRack;
 use racks::stack::StackRack;
 use scripts::names::{DirectName, HeapName, RackName};
 use slots::heap::Slots;
 
-pub type Direct = HeapChoice<BestFit, Slots>;
+pub type Direct = Choice<BestFit, Slots>;
 
-pub type AnyHeap = HeapChoice<
-    Direct,
-    HeapChoice<Quarantine<Direct>, Quarantine<Quarantine<Direct>>>,
->;
+pub type AnyHeap = Choice<Direct, Choice<Quarantine<Direct>, Quarantine<Quarantine<Direct>>>>;
 
-pub type AnyRack = RackChoice<StackRack, RingRack>;
+pub type AnyRack = Choice<StackRack, RingRack>;
 
+// Functions and no From, since neither the names nor the heaps are this crate's.
 fn new_direct(name: DirectName) -> Direct
     ensures { NewDirect name result }
 {
     match name {
-        DirectName::BestFit => HeapChoice::First(BestFit::new()),
-        DirectName::Slots => HeapChoice::Second(Slots::new()),
+        DirectName::BestFit => Choice::First(BestFit::new()),
+        DirectName::Slots => Choice::Second(Slots::new()),
     }
 }
 
@@ -33,13 +30,13 @@ pub fn new_heap(name: HeapName) -> AnyHeap
     ensures { NewHeap name result }
 {
     match name {
-        HeapName::Alone(direct) => HeapChoice::First(new_direct(direct)),
+        HeapName::Alone(direct) => Choice::First(new_direct(direct)),
         HeapName::Quarantined(direct) => {
-            HeapChoice::Second(HeapChoice::First(Quarantine::new(new_direct(direct))))
+            Choice::Second(Choice::First(Quarantine::new(new_direct(direct))))
         }
         HeapName::TwiceQuarantined(direct) => {
             let below = Quarantine::new(new_direct(direct));
-            HeapChoice::Second(HeapChoice::Second(Quarantine::new(below)))
+            Choice::Second(Choice::Second(Quarantine::new(below)))
         }
     }
 }
@@ -49,7 +46,7 @@ pub fn new_rack(name: RackName) -> AnyRack
     ensures { NewRack name result }
 {
     match name {
-        RackName::Stack => RackChoice::First(StackRack::new()),
-        RackName::Ring => RackChoice::Second(RingRack::new()),
+        RackName::Stack => Choice::First(StackRack::new()),
+        RackName::Ring => Choice::Second(RingRack::new()),
     }
 }

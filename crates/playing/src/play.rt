@@ -1,16 +1,16 @@
 // Plays scripts on standard output: a line for each call, with what it answers.
 use crate::chosen::{AnyHeap, AnyRack, new_heap, new_rack};
 use benches::bench::Bench;
-use benches::reply::Reply;
+use benches::reply::{Refusal, Reply};
 use scripts::command::Command;
-use scripts::entry::{Entry, line_end};
+use scripts::lines::{Lines, command_in};
 use sheets::drawing::{HEAD, RULE, SCALE, bar, heading};
 use sheets::sheet::Sheet;
 use std::fs;
 
 type AnyBench = Bench<AnyHeap, AnyRack>;
 
-// Each script in turn, from nothing.
+// Each script in turn, from nothing. `listing` says why this and the reading of a file are not one with its own.
 pub fn play_all(rt: &HostRuntime, names: &[String]) -> anyhow::Result<()> {
     for name in names {
         play_file(rt, name.as_str())?;
@@ -19,24 +19,17 @@ pub fn play_all(rt: &HostRuntime, names: &[String]) -> anyhow::Result<()> {
 }
 
 fn play_file(rt: &HostRuntime, name: &str) -> anyhow::Result<()> {
-    match fs::read(rt, name) {
-        Ok(text) => play_script(rt, &text),
-        Err(_) => Ok(println!(rt; "{name}: no file")?),
-    }
+    let Ok(text) = fs::read(rt, name) else {
+        println!(rt; "{name}: no file")?;
+        return Ok(());
+    };
+    play_script(rt, &text)
 }
 
 fn play_script(rt: &HostRuntime, text: &[u8]) -> anyhow::Result<()> {
     let mut bench = Bench::new();
-    let mut from = 0;
-    let mut number = 0;
-    while from < text.len() {
-        let end = line_end(text, from);
-        number += 1;
-        play_line(rt, &mut bench, number, &text[from..end])?;
-        if end == text.len() {
-            break;
-        }
-        from = end + 1;
+    for (before, line) in Lines::of(text).enumerate() {
+        play_line(rt, &mut bench, before + 1, line)?;
     }
     Ok(())
 }
@@ -47,11 +40,12 @@ fn play_line(
     number: usize,
     line: &[u8],
 ) -> anyhow::Result<()> {
-    match Entry::of(line) {
-        Entry::PassedOver => Ok(()),
-        Entry::Said(command) => play_command(rt, bench, command),
-        Entry::NotUnderstood => Ok(println!(rt; "line {number}: not understood")?),
+    match command_in(line) {
+        Ok(Some(command)) => play_command(rt, bench, command)?,
+        Ok(None) => {}
+        Err(error) => println!(rt; "line {number}: {error}")?,
     }
+    Ok(())
 }
 
 // A new heap or rack comes in the place of the old one, and is always made; the other calls are the bench's.
@@ -62,19 +56,19 @@ fn play_command(rt: &HostRuntime, bench: &mut AnyBench, command: Command) -> any
         Command::Sheet => return play_sheet(rt, bench),
         _ => {}
     }
-    let reply = bench.perform(command).unwrap_or(Reply::Done);
-    Ok(println!(rt; "{command}: {reply}")?)
+    match bench.perform(command).unwrap_or(Ok(Reply::Done)) {
+        Ok(reply) => println!(rt; "{command}: {reply}")?,
+        Err(refusal) => println!(rt; "{command}: {refusal}")?,
+    }
+    Ok(())
 }
 
 fn play_sheet(rt: &HostRuntime, bench: &AnyBench) -> anyhow::Result<()> {
     match bench.heap() {
-        Some(heap) => print_sheet(rt, heap),
-        None => {
-            let command = Command::Sheet;
-            let reply = Reply::NoHeap;
-            Ok(println!(rt; "{command}: {reply}")?)
-        }
+        Some(heap) => print_sheet(rt, heap)?,
+        None => println!(rt; "{}: {}", Command::Sheet, Refusal::NoHeap)?,
     }
+    Ok(())
 }
 
 fn print_sheet(rt: &HostRuntime, heap: &AnyHeap) -> anyhow::Result<()> {

@@ -3,5 +3,4 @@ pub mod Waiting
 pub mod Rule
 pub mod Laws
 pub mod Sound
-pub mod Rings
 pub mod Steps

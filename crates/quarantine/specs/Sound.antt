@@ -7,10 +7,9 @@ use Rattle.heaps.specs.Rule.{HeapRule, Taken, Block}
 use Rattle.heaps.specs.Points.{Points, Keeps, Grants, Free, Reached, cleared, after_take, after_give, minus}
 use Rattle.heaps.proofs.Keeping.{Kept, points_by}
 use Rattle.heaps.proofs.Laying.{some_none}
-use Rattle.quarantine.specs.Lists.{is_in, Once}
+use Rattle.quarantine.specs.Lists.{is_in, is_in_append, Once}
 use Rattle.quarantine.specs.Rule.{Quarantined, quarantined, once, gone_below, retried, held_of, retriable, take_of, joined, given_of, give_of, quarantine_rule}
 use Rattle.quarantine.specs.Laws.{Waits}
-use Rattle.quarantine.specs.Rings.{is_in_append}
 use Rattle.quarantine.specs.Steps.{in_range, out_of_range}
 
 is_none : {A : Type 0} (o : Option A) → is_some o ≡ false → o ≡ None

@@ -1,13 +1,11 @@
 -- The steps of a quarantine's rule, as its code takes them. Assumes nothing.
-use Rattle.std.specs.Prelude.{◌≡◌, ℕ, ◌<◌, ◌≤◌, true, false, ◌⊎◌, List, [], ◌∷◌, drop, Some, None, Ok, Err, Option}
+use Rattle.std.specs.Prelude.{◌≡◌, ℕ, ◌<◌, ◌≤◌, true, false, ◌⊎◌, List, [], ◌∷◌, Some, None, Ok, Err, Option}
 use Rattle.std.proofs.Math.Path.{refl}
-use Rattle.std.proofs.Common.{sym, arith}
+use Rattle.std.proofs.Common.{arith}
 use Rattle.std.proofs.lemmas.Bool.Decides.{nat_tests}
 use Rattle.faults.specs.declared.fault.Fault.{Fault}
 use Rattle.heaps.specs.Answers.{taken}
 use Rattle.heaps.specs.Rule.{HeapRule, Block}
-use Rattle.heaps.proofs.Laying.{some_none}
-use Rattle.quarantine.specs.Lists.{oldest}
 use Rattle.quarantine.specs.Rule.{Quarantined, quarantined, retriable, once, gone_below, retried, take_of}
 
 pub taken_ok : (a : Option Block) (b : Block) → Ok b ≡ taken a → a ≡ Some b
@@ -17,10 +15,6 @@ taken_ok None b e = absurd (let z : ◌≡◌ {A = ℕ} 0 1 = cc in omega arith)
 pub taken_err : (a : Option Block) (f : Fault) → Err f ≡ taken a → a ≡ None
 taken_err (Some c) f e = absurd (let z : ◌≡◌ {A = ℕ} 0 1 = cc in omega arith)
 taken_err None f e = refl
-
-pub none_past : (w : List ℕ) → None ≡ oldest w → drop 1 w ≡ w
-none_past [] o = refl
-none_past (x ∷ w) o = some_none (sym o)
 
 module _ (R : HeapRule) where
   pub in_range : (s : Quarantined R.State) (n : ℕ) → 1 ≤ n → n ≤ 4096 → take_of R s n ≡ retried R n s.waiting s.below
@@ -34,12 +28,10 @@ module _ (R : HeapRule) where
   retried_granted n [] s b e = refl
   retried_granted n (x ∷ w) s b e = rw e
 
-  pub retried_on : (n : ℕ) (w : List ℕ) (s : R.State) (x : ℕ) → (R.take s n).answer ≡ None → Some x ≡ oldest w → retried R n w s ≡ retried R n (drop 1 w) (gone_below R n x s)
+  pub retried_on : (n : ℕ) (w : List ℕ) (s : R.State) (x : ℕ) → (R.take s n).answer ≡ None → retried R n (x ∷ w) s ≡ retried R n w (gone_below R n x s)
   unfolding retried
-  retried_on n [] s x e o = some_none o
-  retried_on n (y ∷ w) s x e o = let same : x ≡ y = cc in rw (e, same)
+  retried_on n w s x e = rw e
 
-  pub retried_end : (n : ℕ) (w : List ℕ) (s : R.State) → None ≡ oldest w → retried R n w s ≡ once R n (quarantined s w)
+  pub retried_end : (n : ℕ) (s : R.State) → retried R n [] s ≡ once R n (quarantined s [])
   unfolding retried
-  retried_end n [] s o = refl
-  retried_end n (y ∷ w) s o = some_none (sym o)
+  retried_end n s = refl

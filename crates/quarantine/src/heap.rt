@@ -4,17 +4,18 @@ ghost use Rattle.quarantine.specs.Rule.{quarantine_rule, quarantined, joined};
 ghost use Rattle.quarantine.specs.Waiting.{waiting_of};
 ghost use Rattle.quarantine.specs.Sound.{quarantine_points};
 
-use crate::line::Line;
+use crate::limits::MOST_WAITING;
 use faults::cause::Cause;
 use faults::fault::Fault;
 use heaps::block::Bare;
 use heaps::heap::Heap;
 use heaps::limits::HEAP_BYTES;
+use rings::ring::Ring;
 
 #[derive(Drop)]
 pub struct Quarantine<H> {
     below: H,
-    waiting: Line,
+    waiting: Ring<u64, MOST_WAITING>,
 }
 
 impl<H: Heap> Quarantine<H> {
@@ -24,7 +25,7 @@ impl<H: Heap> Quarantine<H> {
     {
         Quarantine {
             below,
-            waiting: Line::new(),
+            waiting: Ring::new(),
         }
     }
 
@@ -32,14 +33,14 @@ impl<H: Heap> Quarantine<H> {
     fn wait(&mut self, start: u64)
         ensures { quarantined (H.state self.new.below) (waiting_of self.new.waiting) ≡ joined H.rule start (waiting_of self.old.waiting) (H.state self.old.below) }
     {
-        if !self.waiting.is_full() {
-            self.waiting.push(start);
-            return;
-        }
-        if let Some(longest) = self.waiting.pop() {
+        if self.waiting.is_full()
+            && let Some(longest) = self.waiting.pop_front()
+        {
+            // What waits lives below, so this give is not refused.
             let _ = self.below.give(longest);
-            self.waiting.push(start);
         }
+        // There is room now.
+        let _ = self.waiting.push_back(start);
     }
 }
 
@@ -57,26 +58,24 @@ impl<H: Heap> Heap for Quarantine<H> {
         loop {
             match self.below.take(n) {
                 Ok(block) => return Ok(block),
-                Err(fault) => match self.waiting.pop() {
-                    Some(longest) => {
-                        let _ = self.below.give(longest);
-                    }
-                    None => return Err(fault),
-                },
+                Err(refused) => {
+                    let longest = self.waiting.pop_front().ok_or(refused)?;
+                    // What waited lives below, so this give is not refused.
+                    let _ = self.below.give(longest);
+                }
             }
         }
     }
 
     fn give(&mut self, start: u64) -> Result<(), Fault> {
-        if self.holds(start).is_none() {
-            return Err(Fault::whole(Cause::GiveRefused));
-        }
+        self.holds(start)
+            .ok_or_else(|| Fault::whole(Cause::GiveRefused))?;
         self.wait(start);
         Ok(())
     }
 
     fn holds(&self, start: u64) -> Option<u64> {
-        if self.waiting.has(start) {
+        if self.waiting.contains(&start) {
             return None;
         }
         self.below.holds(start)

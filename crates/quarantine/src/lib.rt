@@ -4,5 +4,3 @@
 pub mod heap;
 pub mod laws;
 mod limits;
-mod line;
-mod waiting;

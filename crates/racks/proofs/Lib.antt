@@ -1,4 +1,2 @@
 pub mod Histories
-pub mod Stacks
-pub mod Rings
 pub mod Turns

@@ -4,7 +4,6 @@ pub mod Histories
 pub mod Answers
 pub mod Row
 pub mod Accounted
-pub mod Cells
 pub mod States
 pub mod Turns
 pub mod Rows

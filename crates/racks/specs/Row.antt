@@ -8,6 +8,9 @@ pub record Row : Type 0 where
   pub back : List ℕ
   pub out : List Bool
 
+abbrev pub row_of : List ℕ → List Bool → Row
+row_of back out = record { back = back; out = out }
+
 abbrev pub row_out : Row → ℕ → Bool
 row_out s p = slice_index_or s.out p false
 

@@ -1,11 +1,6 @@
 -- The row of a stack rack and of a ring rack, for contracts that speak of one. Assumes nothing.
-use Rattle.racks.specs.Row.{Row}
-use Rattle.racks.specs.Cells.{stack_row, ring_row}
-use Rattle.racks.specs.declared.stack.StackRack.{StackRack}
-use Rattle.racks.specs.declared.ring.RingRack.{RingRack}
+use Rattle.racks.specs.Row.{Row, row_of}
+use Rattle.racks.specs.declared.place_rack.PlaceRack.{PlaceRack}
 
-abbrev pub stack_state : StackRack → Row
-stack_state r = stack_row r.places r.top r.out
-
-abbrev pub ring_state : RingRack → Row
-ring_state r = ring_row r.places r.first r.count r.out
+abbrev pub rack_state : {J : Type 0} → PlaceRack J → Row
+rack_state r = row_of r.back r.out

@@ -1,7 +1,8 @@
 -- Lines and words: what follows words that a line begins with. Assumes nothing.
 use Rattle.std.proofs.Common.{◌≡◌, ℕ, Bool, true, false, eqb, List, [], ◌∷◌, ◌++◌, Some, None, Option, sym, refl, ap, ◌∙◌, arith, Bor, MatchOption}
 use Rattle.std.proofs.lemmas.Bool.{eqb-true, eq-eqb, cond-true, cond-false}
-use Rattle.scripts.specs.Parts.{seen}
+use Rattle.std.specs.Option.{ok_or, option_copied, option_map, IsSomeAnd}
+use Rattle.std.specs.Result.{result_ok}
 use Rattle.scripts.specs.Words.{after}
 
 -- a line that begins with words goes on after them
@@ -30,6 +31,17 @@ after_none ws line f = go (after ws line) refl
     go (Some rest) e = absurd (f rest (after_told ws line rest e))
 
 -- what a call of strip_prefix says
-pub after_by : (ws line : List ℕ) (r : Option (Bor (List ℕ))) → MatchOption r ((rest : List ℕ) → line ≡ ws ++ rest → ⊥) (λ x. line ≡ ws ++ x.now) → seen r ≡ after ws line
+pub after_by : (ws line : List ℕ) (r : Option (Bor (List ℕ))) → MatchOption r ((rest : List ℕ) → line ≡ ws ++ rest → ⊥) (λ x. line ≡ ws ++ x.now) → option_copied r ≡ after ws line
 after_by ws line None h = after_none ws line h
 after_by ws line (Some x) h = sym (ap (after ws) h ∙ after_tells ws x.now)
+
+-- what a call of map says, where the function is a variant
+pub mapped_by : {A B : Type 0} (f : A → B) (o : Option A) (r : Option B) → MatchOption o (r ≡ None) (λ x. IsSomeAnd r (λ y. y ≡ f x)) → r ≡ option_map f o
+mapped_by f None r h = h
+mapped_by f (Some x) (Some y) h = ap Some h
+mapped_by f (Some x) None h = absurd h
+
+-- an answer that was made an error's absence
+pub ok_of : {A E : Type 0} (o : Option A) (e : E) → result_ok (ok_or o e) ≡ o
+ok_of (Some a) e = refl
+ok_of None e = refl

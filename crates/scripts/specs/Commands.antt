@@ -1,10 +1,12 @@
 -- What a line of a script says: how each command is written, and read. Assumes nothing.
-use Rattle.std.specs.Prelude.{◌≡◌, ℕ, ◌^◌, ◌<◌, cond, List, ◌++◌, Some, None, codes, decimal, Option}
+use Rattle.std.specs.Prelude.{◌≡◌, ℕ, ◌^◌, ◌<◌, cond, List, ◌++◌, Some, None, codes, decimal, Option, Result}
+use Rattle.std.specs.Option.{ok_or, option_map, option_or}
+use Rattle.std.specs.Result.{result_ok}
 use Rattle.std.specs.Str.{bytes_eq}
 use Rattle.numerals.specs.Numerals.{natural_in}
 use Rattle.scripts.specs.declared.command.Command.{Command}
 use Rattle.scripts.specs.declared.command.Command.TheVariants.{Heap, Rack, Take, Give, Holds, Draw, Put, Clear, Sheet}
-use Rattle.scripts.specs.Parts.{mapped}
+use Rattle.scripts.specs.declared.command.NotUnderstood.{NotUnderstood}
 use Rattle.scripts.specs.Words.{after, past}
 use Rattle.scripts.specs.Names.{heap_written, rack_written, heap_of, rack_of}
 
@@ -41,21 +43,31 @@ plain_of line =
     None))
 
 -- words with a number
+abbrev pub number_after : List ℕ → List ℕ → Option ℕ
+number_after words line = past (after words line) natural_in None
+
 abbrev pub counted_of : List ℕ → Option Command
 counted_of line =
-    past (after (codes "take ") line) (λ ds. mapped Take (natural_in ds))
-    (past (after (codes "give ") line) (λ ds. mapped Give (natural_in ds))
-    (past (after (codes "holds ") line) (λ ds. mapped Holds (natural_in ds))
-    (past (after (codes "put ") line) (λ ds. mapped Put (natural_in ds))
-    (plain_of line))))
+    option_or (option_map Take (number_after (codes "take ") line))
+    (option_or (option_map Give (number_after (codes "give ") line))
+    (option_or (option_map Holds (number_after (codes "holds ") line))
+    (option_map Put (number_after (codes "put ") line))))
+
+-- words with a name
+abbrev pub named_of : List ℕ → Option Command
+named_of line =
+    past (after (codes "heap ") line) (λ w. option_map Heap (heap_of w))
+    (past (after (codes "rack ") line) (λ w. option_map Rack (rack_of w))
+    None)
 
 abbrev pub command_of : List ℕ → Option Command
-command_of line =
-    past (after (codes "heap ") line) (λ w. mapped Heap (heap_of w))
-    (past (after (codes "rack ") line) (λ w. mapped Rack (rack_of w))
-    (counted_of line))
+command_of line = option_or (named_of line) (option_or (counted_of line) (plain_of line))
 
 -- the law: a line is read as a command exactly where it is the command's writing; so it writes one at most
 pub record Says (line : List ℕ) (r : Option Command) : Type 0 where
   pub told : (c : Command) → r ≡ Some c → (line ≡ written c) × Short c
   pub tells : (c : Command) → line ≡ written c → Short c → r ≡ Some c
+
+-- what reading gives: the command, or that the line is none
+abbrev pub Reads : List ℕ → Result Command NotUnderstood → Type 0
+Reads line r = (r ≡ ok_or (command_of line) (record {})) × Says line (result_ok r)

@@ -1,5 +1,5 @@
-pub mod Parts
 pub mod Words
 pub mod Names
 pub mod Commands
 pub mod Entries
+pub mod Lines

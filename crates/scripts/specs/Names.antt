@@ -1,5 +1,6 @@
 -- The heaps and racks that a script can name: how they are written, and read. Assumes nothing.
-use Rattle.std.specs.Prelude.{ℕ, cond, List, ◌++◌, Some, None, codes, Option}
+use Rattle.std.specs.Prelude.{ℕ, cond, List, ◌++◌, Some, None, codes, Option, Result}
+use Rattle.std.specs.Option.{ok_or, option_map}
 use Rattle.std.specs.Str.{bytes_eq}
 use Rattle.scripts.specs.declared.names.DirectName.{DirectName}
 use Rattle.scripts.specs.declared.names.DirectName.TheVariants.{BestFit, Slots}
@@ -7,7 +8,7 @@ use Rattle.scripts.specs.declared.names.HeapName.{HeapName}
 use Rattle.scripts.specs.declared.names.HeapName.TheVariants.{Alone, Quarantined, TwiceQuarantined}
 use Rattle.scripts.specs.declared.names.RackName.{RackName}
 use Rattle.scripts.specs.declared.names.RackName.TheVariants.{Stack, Ring}
-use Rattle.scripts.specs.Parts.{mapped}
+use Rattle.scripts.specs.declared.names.UnknownName.{UnknownName}
 use Rattle.scripts.specs.Words.{after, past}
 
 abbrev pub direct_written : DirectName → List ℕ
@@ -31,7 +32,11 @@ rack_of w = cond (bytes_eq w (codes "stack")) (Some Stack) (cond (bytes_eq w (co
 
 -- after `quarantine ` may come a second one
 abbrev pub below_one : List ℕ → Option HeapName
-below_one w = past (after (codes "quarantine ") w) (λ below. mapped TwiceQuarantined (direct_of below)) (mapped Quarantined (direct_of w))
+below_one w = past (after (codes "quarantine ") w) (λ below. option_map TwiceQuarantined (direct_of below)) (option_map Quarantined (direct_of w))
 
 abbrev pub heap_of : List ℕ → Option HeapName
-heap_of w = past (after (codes "quarantine ") w) below_one (mapped Alone (direct_of w))
+heap_of w = past (after (codes "quarantine ") w) below_one (option_map Alone (direct_of w))
+
+-- what reading gives: the name, or that the words are none
+abbrev pub read_as : {T : Type 0} → Option T → Result T UnknownName
+read_as name = ok_or name (record {})

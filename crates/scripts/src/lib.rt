@@ -2,6 +2,6 @@
 #![tactic(auto)]
 
 pub mod command;
-pub mod entry;
+pub mod lines;
 pub mod names;
 mod words;

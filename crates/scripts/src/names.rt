@@ -1,48 +1,83 @@
 // The heaps and racks that a script can name.
-ghost use Rattle.std.specs.Prelude.{◌≡◌, Some};
-ghost use Rattle.scripts.specs.Names.{direct_written, heap_written, rack_written, direct_of, below_one, heap_of, rack_of};
+ghost use Rattle.std.specs.Prelude.{◌≡◌, Some, codes};
+ghost use Rattle.scripts.specs.Names.{direct_written, heap_written, rack_written, direct_of, heap_of, rack_of, read_as};
 
-use crate::words::{after, same};
+use crate::words::after;
+use std::error::Error;
 use std::fmt;
 
-const QUARANTINE: &str = "quarantine ";
+const QUARANTINE: &[u8] = b"quarantine ";
 
-// A heap that stands on no other.
-#[derive(Clone, Copy)]
+// A heap that stands on no other. Two words here and two for the racks: a table for both would be longer than the matches.
+#[derive(Clone, Copy, Debug, PartialEq, Eq)]
 pub enum DirectName {
     BestFit,
     Slots,
 }
 
 // A direct heap, alone or below one or two quarantines.
-#[derive(Clone, Copy)]
+#[derive(Clone, Copy, Debug, PartialEq, Eq)]
 pub enum HeapName {
     Alone(DirectName),
     Quarantined(DirectName),
     TwiceQuarantined(DirectName),
 }
 
-#[derive(Clone, Copy)]
+#[derive(Clone, Copy, Debug, PartialEq, Eq)]
 pub enum RackName {
     Stack,
     Ring,
 }
 
-impl DirectName {
-    fn of(words: &[u8]) -> Option<DirectName>
-        ensures { result ≡ direct_of words.now }
-    {
-        if same(words, "best-fit") {
-            Some(DirectName::BestFit)
-        } else if same(words, "slots") {
-            Some(DirectName::Slots)
-        } else {
-            None
+// Words that name no heap, or no rack.
+#[derive(Clone, Copy, Debug, PartialEq, Eq)]
+pub struct UnknownName;
+
+impl TryFrom<&[u8]> for DirectName {
+    type Error = UnknownName;
+
+    ghost try_from_gives = { λ words r. r ≡ read_as (direct_of words.now) };
+
+    fn try_from(words: &[u8]) -> Result<DirectName, UnknownName> {
+        match words {
+            b"best-fit" => Ok(DirectName::BestFit),
+            b"slots" => Ok(DirectName::Slots),
+            _ => Err(UnknownName),
         }
     }
 }
 
-// The names as scripts write them.
+impl TryFrom<&[u8]> for HeapName {
+    type Error = UnknownName;
+
+    ghost try_from_gives = { λ words r. r ≡ read_as (heap_of words.now) };
+
+    fn try_from(words: &[u8]) -> Result<HeapName, UnknownName> {
+        let Some(below) = after(words, QUARANTINE) else {
+            return DirectName::try_from(words).map(HeapName::Alone);
+        };
+        match after(below, QUARANTINE) {
+            Some(direct) => DirectName::try_from(direct).map(HeapName::TwiceQuarantined),
+            None => DirectName::try_from(below).map(HeapName::Quarantined),
+        }
+    }
+}
+
+impl TryFrom<&[u8]> for RackName {
+    type Error = UnknownName;
+
+    ghost try_from_gives = { λ words r. r ≡ read_as (rack_of words.now) };
+
+    fn try_from(words: &[u8]) -> Result<RackName, UnknownName> {
+        match words {
+            b"stack" => Ok(RackName::Stack),
+            b"ring" => Ok(RackName::Ring),
+            _ => Err(UnknownName),
+        }
+    }
+}
+
+// The names as scripts write them; by hand, for their `output`.
 impl fmt::Display for DirectName {
     ghost output = { λ n. Some (direct_written n) };
 
@@ -51,36 +86,6 @@ impl fmt::Display for DirectName {
             DirectName::BestFit => "best-fit",
             DirectName::Slots => "slots",
         })
-    }
-}
-
-impl HeapName {
-    pub(crate) fn of(words: &[u8]) -> Option<HeapName>
-        ensures { result ≡ heap_of words.now }
-    {
-        if let Some(rest) = after(words, QUARANTINE) {
-            return HeapName::below_one(rest);
-        }
-        match DirectName::of(words) {
-            Some(name) => Some(HeapName::Alone(name)),
-            None => None,
-        }
-    }
-
-    // What stands below one quarantine.
-    fn below_one(words: &[u8]) -> Option<HeapName>
-        ensures { result ≡ below_one words.now }
-    {
-        if let Some(rest) = after(words, QUARANTINE) {
-            return match DirectName::of(rest) {
-                Some(name) => Some(HeapName::TwiceQuarantined(name)),
-                None => None,
-            };
-        }
-        match DirectName::of(words) {
-            Some(name) => Some(HeapName::Quarantined(name)),
-            None => None,
-        }
     }
 }
 
@@ -96,20 +101,6 @@ impl fmt::Display for HeapName {
     }
 }
 
-impl RackName {
-    pub(crate) fn of(words: &[u8]) -> Option<RackName>
-        ensures { result ≡ rack_of words.now }
-    {
-        if same(words, "stack") {
-            Some(RackName::Stack)
-        } else if same(words, "ring") {
-            Some(RackName::Ring)
-        } else {
-            None
-        }
-    }
-}
-
 impl fmt::Display for RackName {
     ghost output = { λ n. Some (rack_written n) };
 
@@ -120,3 +111,13 @@ impl fmt::Display for RackName {
         })
     }
 }
+
+impl fmt::Display for UnknownName {
+    ghost output = { λ _. Some (codes "unknown name") };
+
+    fn fmt<W: fmt::Write>(&self, f: &mut fmt::Formatter<W>) -> fmt::Result {
+        f.write_str("unknown name")
+    }
+}
+
+impl Error for UnknownName {}

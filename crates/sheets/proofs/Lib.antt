@@ -1,3 +1,4 @@
 pub mod Walking
 pub mod Showing
 pub mod Marking
+pub mod Columns

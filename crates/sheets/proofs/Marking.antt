@@ -1,32 +1,37 @@
 -- The steps of drawing the placement sheet. Assumes nothing.
-use Rattle.std.proofs.Common.{◌≡◌, ℕ, suc, ◌+◌, ◌-◌, ◌*◌, ◌<◌, Bool, true, false, ◌||◌, List, ◌++◌, length, get_or, drop, codes, decimal, sym, ap, ◌∙◌, append_assoc, append-nil, arith}
-use Rattle.std.proofs.lemmas.List.{at_drop_more}
+use Rattle.std.proofs.Common.{◌≡◌, ℕ, suc, ◌+◌, ◌-◌, ◌/◌, ◌%◌, ◌<◌, ◌≤◌, List, ◌++◌, codes, decimal, sym, ap, ◌∙◌, append_assoc, append-nil, arith}
 use Rattle.sheets.specs.declared.stretch.Stretch.{Stretch}
-use Rattle.sheets.specs.Drawing.{unit_of, heading_of, touches, some_touch, mark_at, marks_from}
+use Rattle.sheets.specs.Drawing.{unit_of, heading_of, mark_at, marks_from}
 
--- one stretch more is looked at
-module _ (living : Bool) (a : ℕ) (ss : List Stretch) (i : ℕ) (d : Stretch) (h : i < length ss) where
-  pub touch_found : true ≡ touches living a (get_or ss i d) → some_touch living a (drop i ss) ≡ true
-  touch_found e = at_drop_more (some_touch living a) ss i d h ∙ ap (λ t. t || some_touch living a (drop (i + 1) ss)) (sym e)
+-- how many marks are left
+abbrev pub marks_left : ℕ → ℕ
+marks_left a = (4096 - a) / 64
 
-  pub touch_past : false ≡ touches living a (get_or ss i d) → some_touch living a (drop (i + 1) ss) ≡ some_touch living a (drop i ss)
-  touch_past e = sym (at_drop_more (some_touch living a) ss i d h ∙ ap (λ t. t || some_touch living a (drop (i + 1) ss)) (sym e))
+-- what holds before each mark: what is written, with the marks that are left, is all of them
+pub record Marked (ss : List Stretch) (text : List ℕ) (a : ℕ) : Type 0 where
+  pub even : a % 64 ≡ 0
+  pub within : a ≤ 4096
+  pub whole : text ++ marks_from ss (marks_left a) a ≡ codes "  [" ++ marks_from ss 64 0
 
 -- one mark more is written
-pub mark_more : (ss : List Stretch) (k : ℕ) (text after : List ℕ) → k < 64 → after ≡ text ++ mark_at ss (64 * k) → after ++ marks_from ss (64 - (k + 1)) (64 * (k + 1)) ≡ text ++ marks_from ss (64 - k) (64 * k)
+pub mark_more : (ss : List Stretch) (text after : List ℕ) (a : ℕ) → a < 4096 → Marked ss text a → after ≡ text ++ mark_at ss a → Marked ss after (a + 64)
 unfolding marks_from
-mark_more ss k text after h e =
-    let f : suc (64 - (k + 1)) ≡ 64 - k = omega arith in
-    let g : 64 * (k + 1) ≡ 64 * k + 64 = omega arith in
-    ap (λ l. l ++ marks_from ss (64 - (k + 1)) (64 * (k + 1))) e
-    ∙ append_assoc text (mark_at ss (64 * k)) _
-    ∙ ap (λ x. text ++ (mark_at ss (64 * k) ++ marks_from ss (64 - (k + 1)) x)) g
-    ∙ ap (λ n. text ++ marks_from ss n (64 * k)) f
+mark_more ss text after a h w e =
+    let f : suc (marks_left (a + 64)) ≡ marks_left a = omega (arith, w.even) in
+    record {
+      even = omega (arith, w.even);
+      within = omega (arith, w.even);
+      whole =
+          ap (λ l. l ++ marks_from ss (marks_left (a + 64)) (a + 64)) e
+          ∙ append_assoc text (mark_at ss a) _
+          ∙ ap (λ n. text ++ marks_from ss n a) f
+          ∙ w.whole;
+    }
 
 -- after the last mark none is left
-pub mark_ends : (ss : List Stretch) (k : ℕ) (text all : List ℕ) → k ≡ 64 → text ++ marks_from ss (64 - k) (64 * k) ≡ all → text ≡ all
+pub mark_ends : (ss : List Stretch) (text : List ℕ) (a : ℕ) → 4096 ≤ a → Marked ss text a → text ≡ codes "  [" ++ marks_from ss 64 0
 unfolding marks_from
-mark_ends ss k text all e h = sym (append-nil text) ∙ ap (λ i. text ++ marks_from ss (64 - i) (64 * i)) (sym e) ∙ h
+mark_ends ss text a h w = let none : 0 ≡ marks_left a = omega arith in sym (append-nil text) ∙ ap (λ n. text ++ marks_from ss n a) none ∙ w.whole
 
 -- the heading, with the word for the blocks
 pub heading_by : (blocks held free : ℕ) (unit : List ℕ) → unit ≡ unit_of blocks → codes "sheet: " ++ (decimal blocks ++ (codes " " ++ (unit ++ (codes ", " ++ (decimal held ++ (codes " bytes held, " ++ (decimal free ++ codes " bytes free"))))))) ≡ heading_of blocks held free

@@ -3,6 +3,7 @@ use Rattle.std.proofs.Common.{◌≡◌, ℕ, zero, suc, ◌+◌, ◌-◌, ◌*�
 use Rattle.std.proofs.lemmas.Bool.{cond-true, cond-false, ltb-false, eq-eqb, ne_eqb, cases_lt}
 use Rattle.std.proofs.lemmas.Bool.Decides.{nat_tests}
 use Rattle.heaps.specs.Points.{Laid}
+use Rattle.sheets.specs.declared.stretch.Kind.TheVariants.{Block, Gap}
 use Rattle.sheets.specs.declared.stretch.Stretch.{Stretch}
 use Rattle.sheets.specs.Sheets.{starts_at, gap_to, size_at, found_at, end_after, stretches_from, stretches_of, Tiles, block_at, Shows}
 use Rattle.sheets.proofs.Walking.{size_fits}
@@ -11,7 +12,7 @@ use Rattle.sheets.proofs.Walking.{size_fits}
 gap_tiles : (from to : ℕ) (rest : List Stretch) → from ≤ to → Tiles to rest → Tiles from (gap_to from to ++ rest)
 gap_tiles from to rest h t = go (ltb from to) refl
   where
-    go : (b : Bool) → ltb from to ≡ b → Tiles from (cond b (record { start = from; size = to - from; living = false } ∷ []) [] ++ rest)
+    go : (b : Bool) → ltb from to ≡ b → Tiles from (cond b (record { start = from; size = to - from; kind = Gap } ∷ []) [] ++ rest)
     go true e = (refl, let s : to ≡ from + (to - from) = omega arith in rw (← s) t)
     go false e = let s : to ≡ from = let l = ltb-false from to e in omega arith in rw (← s) t
 
@@ -30,13 +31,13 @@ tiles_from m (suc k) a from e h = go (λ end. tiles_from m k (a + 8) end (omega 
 gap_lists : (from to x : ℕ) (rest : List Stretch) → block_at (gap_to from to ++ rest) x ≡ block_at rest x
 gap_lists from to x rest = go (ltb from to)
   where
-    go : (t : Bool) → block_at (cond t (record { start = from; size = to - from; living = false } ∷ []) [] ++ rest) x ≡ block_at rest x
+    go : (t : Bool) → block_at (cond t (record { start = from; size = to - from; kind = Gap } ∷ []) [] ++ rest) x ≡ block_at rest x
     go true = refl
     go false = refl
 
 -- what is listed at an address where a block is found, or later
 found_lists : (h a from x : ℕ) (rest : List Stretch) → block_at (found_at (Some h) a from ++ rest) x ≡ cond (eqb a x) (Some (size_at a h)) (block_at rest x)
-found_lists h a from x rest = ap (λ l. block_at l x) (append_assoc (gap_to from a) (record { start = a; size = size_at a h; living = true } ∷ []) rest) ∙ gap_lists from a x (record { start = a; size = size_at a h; living = true } ∷ rest)
+found_lists h a from x rest = ap (λ l. block_at l x) (append_assoc (gap_to from a) (record { start = a; size = size_at a h; kind = Block } ∷ []) rest) ∙ gap_lists from a x (record { start = a; size = size_at a h; kind = Block } ∷ rest)
 
 -- a block that is found is living, and where none is found and nothing reaches so far none is
 starts_some : (m : ℕ → Option ℕ) (a from h : ℕ) → starts_at m a from ≡ Some h → m a ≡ Some h

@@ -1,5 +1,7 @@
 -- A stretch of the heap's bytes as a row of the placement sheet. Assumes nothing.
-use Rattle.std.specs.Prelude.{ℕ, Bool, true, false, cond, List, ◌++◌, codes, decimal, nat_lt}
+use Rattle.std.specs.Prelude.{ℕ, cond, List, ◌++◌, codes, decimal, nat_lt}
+use Rattle.sheets.specs.declared.stretch.Kind.{Kind}
+use Rattle.sheets.specs.declared.stretch.Kind.TheVariants.{Block, Gap}
 use Rattle.sheets.specs.declared.stretch.Stretch.{Stretch}
 
 -- what stands in front of a number of five digits at most, so that it ends in the fifth column
@@ -11,15 +13,18 @@ padding n =
     (cond (nat_lt n 10000) (codes " ")
     (codes ""))))
 
-abbrev pub kind_of : Bool → List ℕ
-kind_of true = codes "block"
-kind_of false = codes "gap  "
+abbrev pub shown_kind : Kind → List ℕ
+shown_kind Block = codes "block"
+shown_kind Gap = codes "gap  "
+
+abbrev pub in_column : ℕ → List ℕ
+in_column n = padding n ++ decimal n
 
 abbrev pub shown_stretch : Stretch → List ℕ
 shown_stretch s =
     codes "  | "
-    ++ (padding s.start ++ (decimal s.start
+    ++ (in_column s.start
     ++ (codes " | "
-    ++ (padding s.size ++ (decimal s.size
+    ++ (in_column s.size
     ++ (codes " | "
-    ++ (kind_of s.living ++ codes " |")))))))
+    ++ (shown_kind s.kind ++ codes " |")))))

@@ -1,16 +1,17 @@
 // The placement sheet of a heap: its blocks and the gaps between them, by address.
-ghost use Rattle.std.specs.Prelude.{◌≡◌, ◌+◌, ◌-◌, ◌≤◌, ◌++◌, IfOk, Some, OnOk};
+ghost use Rattle.std.specs.Prelude.{◌≡◌, ◌+◌, ◌-◌, ◌++◌, IfOk, Some, OnOk};
 ghost use Rattle.sheets.specs.Sheets.{starts_at, gap_to, size_at, found_at, end_after, stretches_of, Shows, blocks_in, held_in};
 
-use crate::stretch::Stretch;
+use crate::stretch::{Kind, Stretch};
 use heaps::heap::Heap;
 use heaps::limits::HEAP_BYTES;
 use std::alloc::{AllocError, Global};
 
-// Blocks start at multiples of eight.
-const CELL_BYTES: u64 = 8;
+// Where the heap ends. No try_from stands in a constant; the cast is proved.
+pub(crate) const HEAP_END: u16 = HEAP_BYTES as u16;
 
-const CELLS: u64 = HEAP_BYTES / CELL_BYTES;
+// Blocks start at multiples of eight.
+const CELL_BYTES: usize = 8;
 
 // The stretches, how many of them are blocks, and how many bytes are held and free.
 #[derive(Drop)]
@@ -19,54 +20,53 @@ pub struct Sheet {
     pub blocks: u64,
     pub held: u64,
     pub free: u64,
+    ghost counted: { blocks ≡ blocks_in stretches.items },
+    ghost summed: { held ≡ held_in stretches.items },
+    ghost rest: { held + free ≡ 4096 },
 }
 
 // The held size of the block that starts there, if one does and no block before it reaches so far.
-fn starts_at<H: Heap>(heap: &H, start: u64, from: u64) -> Option<u64>
+fn starts_at<H: Heap>(heap: &H, start: u16, from: u16) -> Option<u64>
     ensures { result ≡ starts_at (H.rule.held (H.state heap.now)) start from }
 {
     if start < from {
         return None;
     }
-    heap.holds(start)
+    heap.holds(u64::from(start))
 }
 
 // The gap between two addresses, if there is one.
-fn push_gap(list: &mut Vec<Stretch>, from: u64, to: u64) -> Result<(), AllocError>
-    requires { to ≤ 4096 }
+fn push_gap(list: &mut Vec<Stretch>, from: u16, to: u16) -> Result<(), AllocError>
     ensures { OnOk result (list.new.items ≡ list.old.items ++ gap_to from to) }
 {
     if from < to {
         list.push(Stretch {
-            start: from as u16,
-            size: (to - from) as u16,
-            living: false,
+            start: from,
+            size: to - from,
+            kind: Kind::Gap,
         })?;
     }
     Ok(())
 }
 
 // The bytes of a block, up to the end of the heap.
-fn size_at(start: u64, held: u64) -> u64
-    requires { start ≤ 4096 }
-    ensures is { result ≡ size_at start held }
-    ensures inside { start + result ≤ 4096 }
+fn size_at(start: u16, held: u64) -> u16
+    ensures { result ≡ size_at start held }
 {
-    let room = HEAP_BYTES - start;
-    if held < room { held } else { room }
+    let room = HEAP_END.saturating_sub(start);
+    u16::try_from(held).map_or(room, |held| held.min(room))
 }
 
 // The gap before a block, and the block up to the end of the heap at most; answers where it ends.
-fn push_block(list: &mut Vec<Stretch>, from: u64, start: u64, held: u64) -> Result<u64, AllocError>
-    requires { start ≤ 4096 }
+fn push_block(list: &mut Vec<Stretch>, from: u16, start: u16, held: u64) -> Result<u16, AllocError>
     ensures { IfOk result (λ end. (end ≡ end_after (Some held) start from) × (list.new.items ≡ list.old.items ++ found_at (Some held) start from)) }
 {
     push_gap(list, from, start)?;
     let size = size_at(start, held);
     list.push(Stretch {
-        start: start as u16,
-        size: size as u16,
-        living: true,
+        start,
+        size,
+        kind: Kind::Block,
     })?;
     Ok(start + size)
 }
@@ -83,16 +83,15 @@ impl Sheet {
         let mut from = 0;
         let mut blocks = 0;
         let mut held = 0;
-        for cell in 0..CELLS {
-            let start = CELL_BYTES * cell;
+        for start in (0..HEAP_END).step_by(CELL_BYTES) {
             if let Some(bytes) = starts_at(heap, start, from) {
                 let end = push_block(&mut list, from, start, bytes)?;
                 blocks += 1;
-                held += end - start;
+                held += u64::from(end - start);
                 from = end;
             }
         }
-        push_gap(&mut list, from, HEAP_BYTES)?;
+        push_gap(&mut list, from, HEAP_END)?;
         Ok(Sheet {
             stretches: list,
             blocks,

@@ -19,6 +19,10 @@ first_free t (suc k) i = cond (slice_index_or t i false) (first_free t k ((i + 1
 abbrev pub begins : List Bool → ℕ → Bool
 begins t x = x % 256 == 0 && slice_index_or t (x / 256) false
 
+-- the slot of the living block that starts at x
+abbrev pub slot_at : List Bool → ℕ → Option ℕ
+slot_at t x = cond (begins t x) (Some (x / 256)) None
+
 abbrev pub slots_held : Slotted → ℕ → Option ℕ
 slots_held s x = cond (begins s.taken x) (Some 256) None
 

@@ -1,13 +1,13 @@
 // The slot heap and its calls.
-ghost use Rattle.std.specs.Prelude.{◌≡◌, ◌<◌, true, IfSome};
-ghost use Rattle.slots.specs.Rule.{slots_rule, slotted, cleared, first_free, begins};
+ghost use Rattle.std.specs.Prelude.{◌≡◌, ◌<◌, IfSome};
+ghost use Rattle.slots.specs.Rule.{Slotted, slots_rule, slotted, cleared, first_free, slot_at};
 ghost use Rattle.slots.specs.Keeping.{slots_points};
 
 use faults::cause::Cause;
 use faults::fault::Fault;
 use heaps::block::Bare;
 use heaps::heap::Heap;
-use heaps::limits::HEAP_BYTES;
+use std::marker::Model;
 
 const SLOTS: usize = 16;
 
@@ -15,18 +15,26 @@ const SLOT_BYTES: u64 = 256;
 
 #[derive(Drop)]
 pub struct Slots {
-    taken: [bool; 16],
+    taken: [bool; SLOTS],
     // the slot that a take tries first
     next: usize,
-    ghost within: { next < 16 },
+}
+
+// A heap is seen as which of its slots are taken, and the one that is tried first.
+impl Model for Slots {
+    ghost Value = { Slotted };
+
+    ghost view = { λ s. slotted s.taken s.next };
+
+    ghost invariant = { λ s. s.next < 16 };
 }
 
 impl Slots {
     pub fn new() -> Slots
-        ensures { slotted result.taken result.next ≡ cleared }
+        ensures { result ≡ cleared }
     {
         Slots {
-            taken: [false; 16],
+            taken: [false; SLOTS],
             next: 0,
         }
     }
@@ -36,34 +44,28 @@ impl Slots {
         ensures first { result ≡ first_free self.now.taken 16 self.now.next }
         ensures within { IfSome result (λ i. i < 16) }
     {
-        let mut slot = self.next;
-        let mut left = SLOTS;
-        while left > 0 {
-            if !self.taken[slot] {
-                return Some(slot);
-            }
-            slot = (slot + 1) % SLOTS;
-            left -= 1;
-        }
-        None
+        let first = self.next;
+        (0..SLOTS)
+            .map(|turns| (first + turns) % SLOTS)
+            .find(|&slot| !self.taken[slot])
     }
 
-    // Whether a living block starts there.
-    fn begins(&self, start: u64) -> bool
-        ensures test { result ≡ begins self.now.taken start }
-        ensures inside { result ≡ true → start < 4096 }
+    // The slot of the living block that starts there. The best-fit heap's look-up differs in the size and in what stands in a
+    // cell; three lines are no longer than one function over both.
+    fn slot_at(&self, start: u64) -> Option<usize>
+        ensures slot { result ≡ slot_at self.now.taken start }
+        ensures within { IfSome result (λ i. i < 16) }
     {
-        if start >= HEAP_BYTES {
-            return false;
-        }
-        start % SLOT_BYTES == 0 && self.taken[(start / SLOT_BYTES) as usize]
+        let slot = usize::try_from(start / SLOT_BYTES).ok()?;
+        let taken = *self.taken.get(slot)?;
+        (taken && start % SLOT_BYTES == 0).then_some(slot)
     }
 }
 
 impl Heap for Slots {
     ghost rule = { slots_rule };
 
-    ghost state = { λ s. slotted s.taken s.next };
+    ghost state = { λ s. s };
 
     ghost points = { slots_points };
 
@@ -71,30 +73,25 @@ impl Heap for Slots {
         if n == 0 || n > SLOT_BYTES {
             return Err(Fault::whole(Cause::TakeRefused));
         }
-        match self.first_free() {
-            Some(slot) => {
-                self.taken[slot] = true;
-                self.next = (slot + 1) % SLOTS;
-                Bare::granted(SLOT_BYTES * slot as u64, n, SLOT_BYTES)
-            }
-            None => Err(Fault::whole(Cause::TakeRefused)),
-        }
+        let slot = self
+            .first_free()
+            .ok_or_else(|| Fault::whole(Cause::TakeRefused))?;
+        self.taken[slot] = true;
+        self.next = (slot + 1) % SLOTS;
+        // no From leads from usize to u64
+        Bare::granted(SLOT_BYTES * slot as u64, n, SLOT_BYTES)
     }
 
     fn give(&mut self, start: u64) -> Result<(), Fault> {
-        if !self.begins(start) {
-            return Err(Fault::whole(Cause::GiveRefused));
-        }
-        self.taken[(start / SLOT_BYTES) as usize] = false;
+        let slot = self
+            .slot_at(start)
+            .ok_or_else(|| Fault::whole(Cause::GiveRefused))?;
+        self.taken[slot] = false;
         Ok(())
     }
 
     fn holds(&self, start: u64) -> Option<u64> {
-        if self.begins(start) {
-            Some(SLOT_BYTES)
-        } else {
-            None
-        }
+        self.slot_at(start).map(|_| SLOT_BYTES)
     }
 
     fn clear(&mut self) {

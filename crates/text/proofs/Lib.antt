@@ -1,4 +1,5 @@
 pub mod Cutting
+pub mod Firsts
 pub mod Fives
 pub mod Judging
 pub mod Places

@@ -1,13 +1,19 @@
 -- A search for a name among the values of a line. Assumes nothing.
-use Rattle.std.proofs.Common.{◌≡◌, ℕ, ◌+◌, ◌<◌, true, false, List, [], length, get_or, drop, Some, ◌∙◌}
+use Rattle.std.proofs.Common.{◌≡◌, ℕ, List, [], ◌∷◌, length, get_or, Some, None, Option, option_map, refl, arith}
 use Rattle.std.specs.Str.{bytes_eq}
-use Rattle.std.proofs.lemmas.List.{at_drop_more}
-use Rattle.std.proofs.lemmas.Bool.{cond-true, cond-false}
+use Rattle.std.specs.List.{find}
 use Rattle.form.specs.Columns.{stands_from}
 
-module _ (w : List ℕ) (ws : List (List ℕ)) (k : ℕ) (h : k < length ws) where
-  pub missed : bytes_eq w (get_or ws k []) ≡ false → stands_from k w (drop k ws) ≡ stands_from (k + 1) w (drop (k + 1) ws)
-  missed e = at_drop_more (stands_from k w) ws k [] h ∙ cond-false _ _ _ e
+-- the five places one after another, and the five values
+pub places_of_five : (w : List ℕ) (vs : List (List ℕ)) → length vs ≡ 5 → find (λ k. bytes_eq w (get_or vs k [])) (0 ∷ 1 ∷ 2 ∷ 3 ∷ 4 ∷ []) ≡ stands_from 0 w vs
+places_of_five w [] e = absurd (omega arith)
+places_of_five w (a ∷ []) e = absurd (omega arith)
+places_of_five w (a ∷ b ∷ []) e = absurd (omega arith)
+places_of_five w (a ∷ b ∷ c ∷ []) e = absurd (omega arith)
+places_of_five w (a ∷ b ∷ c ∷ d ∷ []) e = absurd (omega arith)
+places_of_five w (a ∷ b ∷ c ∷ d ∷ f ∷ []) e = refl
+places_of_five w (a ∷ b ∷ c ∷ d ∷ f ∷ g ∷ vs) e = absurd (omega arith)
 
-  pub found : bytes_eq w (get_or ws k []) ≡ true → stands_from k w (drop k ws) ≡ Some k
-  found e = at_drop_more (stands_from k w) ws k [] h ∙ cond-true _ _ _ e
+pub as_found : (r o : Option ℕ) → option_map (λ (k : ℕ). k) r ≡ o → r ≡ o
+as_found (Some k) o e = e
+as_found None o e = e

@@ -1,17 +1,17 @@
 -- The reading line by line, as the loop goes: a line more, a refusal, the end. Assumes nothing.
-use Rattle.std.proofs.Common.{◌≡◌, ℕ, ◌+◌, ◌<◌, ◌≤◌, true, eqb, ◌⊎◌, List, [], ◌∷◌, ◌++◌, length, take, drop, set, Ok, Err, sym, ap, ◌∙◌, ⊎_elim, arith}
+use Rattle.std.proofs.Common.{◌≡◌, ℕ, ◌+◌, ◌<◌, ◌≤◌, min, cond, leb, ltb, List, [], ◌∷◌, ◌++◌, length, take, drop, set, Ok, Err, sym, ap, ◌∙◌, subst, inl, inr, ⊎_elim, arith}
 use Rattle.std.specs.List.{between}
 use Rattle.std.proofs.lemmas.List.{length-drop, at_drop_all, length-take-le, take-append-drop, take_more_set}
-use Rattle.std.proofs.lemmas.Bool.{ne_eqb, le-ltb, lt-ltb, cond-true, or_left, or_right}
+use Rattle.std.proofs.lemmas.Bool.{ne_eqb, le-ltb, le-leb, lt-leb, cases_lt}
 use Rattle.faults.specs.declared.cause.Cause.{Cause}
-use Rattle.faults.specs.declared.cause.Cause.TheVariants.{TextSize}
+use Rattle.faults.specs.declared.cause.Cause.TheVariants.{LineEnd, ValueCount, NoRoom}
 use Rattle.faults.specs.declared.fault.Fault.{Fault}
 use Rattle.faults.specs.Faults.{fault_at}
 use Rattle.operations.specs.declared.operation.Operation.{Operation}
 use Rattle.form.specs.declared.order.Order.{Order}
 use Rattle.text.specs.Lines.{Passes, Fails}
 use Rattle.form.specs.Pieces.{pieces}
-use Rattle.form.specs.Reading.{heading, entry, onward, start, reading, finished, stopped, Reading, answer, list_after}
+use Rattle.form.specs.Reading.{with_five, operation, heading, entry, onward, start, reading, finished, stopped, Reading, answer, list_after}
 use Rattle.form.proofs.Steps.{pieces_some, onward_more, onward_stop, onward_last}
 use Rattle.text.proofs.Cutting.{ended_split, endless_split}
 
@@ -43,6 +43,36 @@ read_all r list before k h e is =
     let n = length-take-le k list h in
     (ap Ok (sym n) ∙ sym (ap answer is), kept list before k h e ∙ sym (ap (λ x. list_after x before) is))
 
+-- the loop at a place of the text, after k records: how it answers there
+module _ (o : Order) (room : ℕ) (text : List ℕ) (list before : List Operation) (at k : ℕ) (whole : Reading) (low : k ≤ length list) (same : drop k list ≡ drop k before) (on : onward o room (take k list) (pieces 10 (drop at text)) ≡ whole) where
+  pub ends : length text ≤ at → (Ok k ≡ answer whole) × (list ≡ list_after whole before)
+  ends h = read_all whole list before k low same (sym on ∙ onward_none o room (take k list) text at h)
+
+  pub stops : (c : Cause) (f : Fault) → at < length text → Fails (entry o room k) text at c → f ≡ fault_at c (k + 2) → (Err f ≡ answer whole) × (list ≡ list_after whole before)
+  stops c f h fails f-is =
+      let n = length-take-le k list low in
+      refused_at whole list before k c f low same
+      (sym on ∙ onward_fails o room (take k list) text at c h (subst (λ j. Fails (entry o room j) text at c) (sym n) fails))
+      f-is
+
+-- below the list's length, only the most operations of a program count
+module _ (o : Order) (room k : ℕ) (below : k < room) where
+  as_full : leb (min 512 512) k ≡ leb (min 512 room) k
+  as_full =
+      ⊎_elim
+      (λ (h : k < 512). lt-leb (min 512 512) k (omega arith) ∙ sym (lt-leb (min 512 room) k (omega arith)))
+      (λ (h : 512 ≤ k). le-leb (min 512 512) k (omega arith) ∙ sym (le-leb (min 512 room) k (omega arith)))
+      (cases_lt k 512)
+
+  as_entry : (l : List ℕ) → entry o 512 k l ≡ entry o room k l
+  as_entry l = ap (λ t. cond (ltb 80 (length l)) (Err LineEnd) (cond t (Err NoRoom) (with_five ValueCount (operation o (k + 2)) l))) as_full
+
+  pub passes_below : (text : List ℕ) (from : ℕ) (op : Operation) (next : ℕ) → Passes (entry o 512 k) text from op next → Passes (entry o room k) text from op next
+  passes_below text from op next p = record { end = p.end; line = p.line; goes = p.goes; is = sym (as_entry (between from p.end text)) ∙ p.is }
+
+  pub fails_below : (text : List ℕ) (from : ℕ) (c : Cause) → Fails (entry o 512 k) text from c → Fails (entry o room k) text from c
+  fails_below text from c f = ⊎_elim (λ x. inl (x.0, x.1, sym (as_entry (between from x.0 text)) ∙ x.2)) inr f
+
 -- one line more
 pub turn : (o : Order) (room : ℕ) (text : List ℕ) (list : List Operation) (at k : ℕ) (op : Operation) (next : ℕ) → k < length list → Passes (entry o room k) text at op next
     → onward o room (take (k + 1) (set list k op)) (pieces 10 (drop next text)) ≡ onward o room (take k list) (pieces 10 (drop at text))
@@ -52,12 +82,6 @@ turn o room text list at k op next lt p =
     ∙ ap (λ j. onward o room (take k list ++ op ∷ []) (pieces 10 (drop j text))) p.goes
     ∙ sym (onward_more o room (take k list) (between at p.end text) (pieces 10 (drop (p.end + 1) text)) op (pieces_some 10 (drop (p.end + 1) text)) (ap (λ j. entry o room j (between at p.end text)) n ∙ p.is))
     ∙ sym (ap (onward o room (take k list)) (ended_split text at p.end p.line))
-
--- a text without a byte, or with too many
-pub reading_sized : (room : ℕ) (text : List ℕ) → (eqb (length text) 0 ≡ true) ⊎ (60000 < length text) → reading text room ≡ stopped [] TextSize 0
-reading_sized room text h =
-    cond-true _ (stopped [] TextSize 0) (start room (pieces 10 text))
-    (⊎_elim (λ (none : eqb (length text) 0 ≡ true). or_left _ _ none) (λ (many : 60000 < length text). or_right (eqb (length text) 0) _ (lt-ltb 60000 (length text) many)) h)
 
 module _ (room : ℕ) (text : List ℕ) (some : 0 < length text) (few : length text ≤ 60000) where
   reading_in : reading text room ≡ start room (pieces 10 text)

@@ -33,6 +33,11 @@ pub record Stops (text : List ℕ) (b from m : ℕ) : Type 0 where
   pub high : m < length text
   pub is : slice_index text m ≡ b
 
+-- the same, and `next` follows the byte b
+pub record Past (text : List ℕ) (b from next : ℕ) : Type 0 where
+  pub stops : Stops text b from (next - 1)
+  pub follows : next ≡ (next - 1) + 1
+
 -- a value that does not end before b: another comma or line end comes first, or the text ends
 pub record Astray (text : List ℕ) (b from : ℕ) : Type 0 where
   pub to : ℕ

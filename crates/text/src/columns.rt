@@ -1,50 +1,56 @@
 // The order of the columns, which the first line names.
-ghost use Rattle.std.specs.Prelude.{◌≡◌, ◌<◌, [], IfSome, slice_index, slice_index_or};
-ghost use Rattle.form.specs.Columns.{order as order_in, stands_from, Placed};
-ghost use Rattle.text.specs.Lines.{Five, line_of};
+ghost use Rattle.std.specs.Prelude.{◌≡◌, MatchOption, None, Some};
+ghost use Rattle.std.proofs.Props.{props};
+ghost use Rattle.form.specs.Columns.{order as order_in, Placed};
 ghost use Rattle.form.specs.Pieces.{pieces};
-ghost use Rattle.form.specs.Values.{says};
-ghost use Rattle.text.specs.Values.{piece_of, says_of};
+ghost use Rattle.form.specs.Reading.{operation};
+ghost use Rattle.text.specs.Lines.{line_of};
 
-use crate::cuts::Cuts;
-use crate::values::{Value, value_between};
+use crate::line::Line;
+use faults::cause::Cause;
 use form::order::Order;
+use operations::operation::Operation;
 
-// The value in a place of the line.
-pub(crate) fn value_in<'a>(text: &'a [u8], cuts: &Cuts, place: usize) -> Value<'a>
-    requires five { Five text.now cuts.now.starts }
-    requires place { place < 5 }
-    ensures at { (piece_of result).at ≡ slice_index cuts.now.starts place }
-    ensures bytes { (piece_of result).bytes.now ≡ slice_index_or (pieces 44 (line_of text.now cuts.now.starts)) place [] }
-    ensures meaning { says_of result ≡ says (slice_index_or (pieces 44 (line_of text.now cuts.now.starts)) place []) }
-{
-    value_between(text, cuts.starts[place], cuts.starts[place + 1] - 1)
+// An order in which each column stands among five values.
+#[derive(Clone, Copy)]
+pub struct Columns {
+    pub order: Order,
+    ghost placed: { Placed order } by { Prim.hlevel props },
 }
 
-// The first place of a name in the line.
-fn place_of(text: &[u8], cuts: &Cuts, name: &[u8]) -> Option<usize>
-    requires { Five text.now cuts.now.starts }
-    ensures value { result ≡ stands_from 0 name.now (pieces 44 (line_of text.now cuts.now.starts)) }
-    ensures bound { IfSome result (λ i. i < 5) }
-{
-    for place in 0..5 {
-        if name == value_in(text, cuts, place).piece().bytes {
-            return Some(place);
-        }
+impl Columns {
+    // The order of the columns, where the line names each of them.
+    pub(crate) fn named_in(line: &Line<'_>) -> Option<Columns>
+        ensures { MatchOption result (order_in (pieces 44 (line_of line.now.text.now line.now.starts)) ≡ None) (λ c. order_in (pieces 44 (line_of line.now.text.now line.now.starts)) ≡ Some c.order) }
+    {
+        let op = line.place_of(b"op")?;
+        let d = line.place_of(b"d")?;
+        let a = line.place_of(b"a")?;
+        let b = line.place_of(b"b")?;
+        let n = line.place_of(b"n")?;
+        Some(Columns {
+            order: Order { op, d, a, b, n },
+        })
     }
-    None
-}
 
-// The order of the columns, where the line names each of them.
-pub(crate) fn order_of(text: &[u8], cuts: &Cuts) -> Option<Order>
-    requires { Five text.now cuts.now.starts }
-    ensures value { result ≡ order_in (pieces 44 (line_of text.now cuts.now.starts)) }
-    ensures bound { IfSome result (λ o. Placed o) }
-{
-    let op = place_of(text, cuts, b"op")?;
-    let d = place_of(text, cuts, b"d")?;
-    let a = place_of(text, cuts, b"a")?;
-    let b = place_of(text, cuts, b"b")?;
-    let n = place_of(text, cuts, b"n")?;
-    Some(Order { op, d, a, b, n })
+    // The operation that the five values of a line say.
+    pub(crate) fn operation(self, line: &Line<'_>, number: u32) -> Result<Operation, Cause>
+        ensures { result ≡ operation self.order number (pieces 44 (line_of line.now.text.now line.now.starts)) }
+    {
+        let order = self.order;
+        let code = line.value(order.op).operator()?;
+        let uses = code.row().uses;
+        let d = line.value(order.d).register(uses.d)?;
+        let a = line.value(order.a).register(uses.a)?;
+        let b = line.value(order.b).register(uses.b)?;
+        let n = line.value(order.n).offset(uses.n)?;
+        Ok(Operation {
+            code: u8::from(code),
+            d,
+            a,
+            b,
+            n,
+            line: number,
+        })
+    }
 }

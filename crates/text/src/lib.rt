@@ -2,7 +2,8 @@
 #![tactic(auto)]
 
 mod columns;
-mod cuts;
 mod entries;
+mod line;
 pub mod reader;
+mod rest;
 mod values;

@@ -1,14 +1,14 @@
 // The reader: a module's text into the caller's list.
-ghost use Rattle.std.specs.Prelude.{◌≡◌, ◌≤◌, [], length, drop};
-ghost use Rattle.form.specs.Columns.{Placed};
+ghost use Rattle.std.specs.Prelude.{◌≡◌, [], length, drop};
 ghost use Rattle.form.specs.Pieces.{pieces};
 ghost use Rattle.form.specs.Promise.{Formed};
 ghost use Rattle.form.specs.Reading.{onward, reading, answer, list_after};
 
-use crate::entries::{entry_of, heading_of};
+use crate::columns::Columns;
+use crate::entries::{entry_of, heading_of, line_number};
+use crate::rest::Rest;
 use faults::cause::Cause;
 use faults::fault::Fault;
-use form::order::Order;
 use operations::operation::Operation;
 
 // The most bytes of a text.
@@ -23,35 +23,28 @@ pub fn read(text: &[u8], list: &mut [Operation]) -> Result<usize, Fault>
     if text.is_empty() || text.len() > LARGEST {
         return Err(Fault::whole(Cause::TextSize));
     }
-    match heading_of(text) {
-        Ok((order, next)) => read_lines(text, next, order, list),
-        Err(cause) => Err(Fault::at(cause, 1)),
-    }
+    let (columns, rest) = heading_of(Rest::of(text)).map_err(|cause| Fault::at(cause, 1))?;
+    read_lines(rest, columns, list)
 }
 
-// The lines from `from` on into the list, from its front.
-fn read_lines(
-    text: &[u8],
-    from: usize,
-    order: Order,
-    list: &mut [Operation],
-) -> Result<usize, Fault>
-    requires from { from ≤ length text.now }
-    requires placed { Placed order }
-    ensures value { result ≡ answer (onward order (length list.old) [] (pieces 10 (drop from text.now))) }
-    ensures after { list.new ≡ list_after (onward order (length list.old) [] (pieces 10 (drop from text.now))) list.old }
+// The lines that are left into the list, from its front.
+fn read_lines(rest: Rest<'_>, columns: Columns, list: &mut [Operation]) -> Result<usize, Fault>
+    ensures value { result ≡ answer (onward columns.order (length list.old) [] (pieces 10 (drop rest.entry.at rest.entry.text.now))) }
+    ensures after { list.new ≡ list_after (onward columns.order (length list.old) [] (pieces 10 (drop rest.entry.at rest.entry.text.now))) list.old }
 {
-    let mut at = from;
-    let mut count: usize = 0;
-    while at < text.len() {
-        match entry_of(text, at, order, count, list.len()) {
-            Ok((operation, next)) => {
-                list[count] = operation;
-                at = next;
-            }
-            Err(cause) => return Err(Fault::at(cause, count as u32 + 2)),
+    let mut left = rest;
+    for (count, place) in list.iter_mut().enumerate() {
+        if left.is_empty() {
+            return Ok(count);
         }
-        count += 1;
+        let line = line_number(count);
+        let (entry, next) = entry_of(left, columns, count).map_err(|cause| Fault::at(cause, line))?;
+        *place = entry;
+        left = next;
     }
-    Ok(count)
+    if left.is_empty() {
+        Ok(list.len())
+    } else {
+        Err(Fault::at(left.blame(Cause::NoRoom), line_number(list.len())))
+    }
 }

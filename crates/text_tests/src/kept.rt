@@ -32,31 +32,31 @@ const TEXTS: [Row; 12] = [
     Row { text: b"op,d,a,b\nset,1,,,5\n", answer: Err((3, 1)) },
 ];
 
-fn check_record(
+// The records in front are those above, and the others were left alone. The note of a failure names the row.
+fn check_records(
     rt: &impl Abort,
-    list: &[Operation; 5],
-    i: usize,
+    list: &[Operation],
     count: usize,
     row: usize,
 ) -> Result<(), Fail> {
-    let left = if i < count {
-        RECORDS.get(i).copied()
-    } else {
-        Some(UNREAD)
-    };
-    assert_eq!(rt; list.get(i).copied(), left, "row {row}, record {i}");
+    for (i, record) in list.iter().enumerate() {
+        let left = if i < count {
+            RECORDS.get(i).copied()
+        } else {
+            Some(UNREAD)
+        };
+        assert_eq!(rt; Some(*record), left, "row {row}, record {i}");
+    }
     Ok(())
 }
 
 #[test]
 fn records(rt: HostRuntime) -> Result<(), Fail> {
-    for i in 0..TEXTS.len() {
+    for (i, row) in TEXTS.iter().enumerate() {
         let mut list = [UNREAD; 5];
-        let answer = answer_of(TEXTS[i].text, &mut list);
-        assert_eq!(rt; answer, TEXTS[i].answer, "row {i}");
-        for k in 0..5 {
-            check_record(&rt, &list, k, written(answer), i)?;
-        }
+        let answer = answer_of(row.text, &mut list);
+        assert_eq!(rt; answer, row.answer, "row {i}");
+        check_records(&rt, &list, written(answer), i)?;
     }
     Ok(())
 }

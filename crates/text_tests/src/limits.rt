@@ -1,5 +1,5 @@
 // Limits from both sides: bytes of a text, bytes of a line, operations, and room in the caller's list.
-use crate::rows::{answer_of, only_written, written};
+use crate::rows::check_read;
 use operations_tests::answers::{Answer, UNREAD};
 use std::alloc::{AllocError, Global};
 use std::process::Abort;
@@ -96,13 +96,10 @@ fn text_of(heap: Global, row: &Long) -> Result<Vec<u8>, AllocError> {
 
 // Every operation in these texts is a stop, so the lines say all of the records that were written.
 fn all_limits(rt: &impl Abort, heap: Global, rows: &[Long]) -> Result<(), Fail> {
-    for i in 0..rows.len() {
-        let row = &rows[i];
+    for (i, row) in rows.iter().enumerate() {
         let text = text_of(heap, row)?;
         let mut list = vec![in heap; UNREAD; row.room]?;
-        let answer = answer_of(text.as_slice(), list.as_mut_slice());
-        assert_eq!(rt; answer, row.answer, "row {i}");
-        only_written(rt, list.as_slice(), written(answer), i)?;
+        check_read(rt, text.as_slice(), list.as_mut_slice(), row.answer, i)?;
     }
     Ok(())
 }

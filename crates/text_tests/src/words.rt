@@ -62,8 +62,8 @@ fn check_known(rt: &impl Abort, known: &Known, number: u8) -> Result<(), Fail> {
 
 #[test]
 fn words(rt: HostRuntime) -> Result<(), Fail> {
-    for i in 0..22u8 {
-        check_known(&rt, &TABLE[i as usize], i)?;
+    for (known, number) in TABLE.iter().zip(0..22u8) {
+        check_known(&rt, known, number)?;
     }
     Ok(())
 }

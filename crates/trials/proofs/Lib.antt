@@ -1,4 +1,3 @@
-pub mod Joining
 pub mod EveryPlace
 pub mod Granting
 pub mod Reaching

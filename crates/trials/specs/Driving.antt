@@ -1,11 +1,11 @@
 -- Worked trials of start, run and press. Assumes nothing.
-use Rattle.std.specs.Prelude.{List, [], ◌∷◌, pos}
+use Rattle.std.specs.Prelude.{List, [], ◌∷◌, Err, pos}
 use Rattle.faults.specs.declared.cause.Cause.TheVariants.{NoSidecar, ZeroDivisor, OffProgram, NotGoing, NotForPress, BadPress}
 use Rattle.operations.specs.declared.code.Code.TheVariants.{Stop, Set}
 use Rattle.operations.specs.declared.operation.Operation.{Operation}
 use Rattle.operations.specs.declared.step.Step.{Step}
 use Rattle.model.specs.declared.outcome.Outcome.TheVariants.{Spent, Out, End}
-use Rattle.model.specs.declared.answer.Answer.TheVariants.{Refused}
+use Rattle.model.specs.declared.refusal.Refusal.TheVariants.{Plain}
 use Rattle.model.specs.Driving.{press}
 use Rattle.trials.specs.Rows.{Row}
 use Rattle.trials.specs.Exchanges.{says, does, gives, fails, starts, no_entry, runs, halts, number, highest, on_stack}
@@ -74,7 +74,7 @@ unknown = record { code = 99; d = 0; a = 0; b = 0; n = pos 0; line = 7 }
 abbrev pub not_pressed : Row
 not_pressed = on_stack highest
     (fails (line 8 stop) NotForPress ∷ fails (jump 0) NotForPress ∷ fails (jzero 1 0) NotForPress ∷ fails (call 0) NotForPress ∷ fails (line 3 ret) NotForPress
-    ∷ says (press unknown) (Refused (record { cause = BadPress; line = 7 })) ∷ fails (line 9 (step_with Stop 1 0 0 0)) BadPress
+    ∷ says (press unknown) (Err (Plain (record { cause = BadPress; line = 7 }))) ∷ fails (line 9 (step_with Stop 1 0 0 0)) BadPress
     ∷ fails (put 16 5) BadPress ∷ fails (step_with Set 1 1 0 5) BadPress ∷ does (put 15 5) ∷ [])
     (number 1 0 ∷ number 15 5 ∷ [])
 

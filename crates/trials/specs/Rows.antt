@@ -3,17 +3,16 @@ use Rattle.std.specs.Prelude.{◌≡◌, ℕ, List, [], ◌∷◌, map, Option}
 use Rattle.heaps.specs.Rule.{HeapRule}
 use Rattle.racks.specs.Rule.{RackRule}
 use Rattle.model.specs.declared.sidecar.Sidecar.{Sidecar}
-use Rattle.model.specs.declared.answer.Answer.{Answer}
-use Rattle.model.specs.Sheet.{State, act, close, word, tag}
+use Rattle.model.specs.Sheet.{State, word, tag, player}
 use Rattle.model.specs.Machine.{machine, made}
 use Rattle.model.specs.History.{book, opened}
-use Rattle.model.specs.Driving.{HostCall, answers}
+use Rattle.model.specs.Driving.{HostCall, Reply, answers}
 use Rattle.model.specs.Agreement.{idle, descent, book_after, machine_after}
 
 -- a call, and what it is answered
 pub record Exchange : Type 0 where
   pub call : HostCall
-  pub answer : Answer
+  pub answer : Reply
 
 abbrev pub calls : List Exchange → List HostCall
 calls xs = map (λ x. x.call) xs
@@ -48,11 +47,11 @@ pub record Row : Type 1 where
 
 module _ (x : Row) where
   -- what machine and book answer, and where the calls lead them
-  abbrev pub machine_says : List Answer
-  machine_says = answers (act (machine x.heap x.rack)) (close (machine x.heap x.rack)) (calls x.exchanges) (idle (made x.heap x.rack x.ceiling x.heap_before x.rack_before))
+  abbrev pub machine_says : List Reply
+  machine_says = answers (player (machine x.heap x.rack)) (calls x.exchanges) (idle (made x.heap x.rack x.ceiling x.heap_before x.rack_before))
 
-  abbrev pub book_says : List Answer
-  book_says = answers (act (book x.heap)) (close (book x.heap)) (calls x.exchanges) (idle (opened x.heap x.ceiling x.heap_before))
+  abbrev pub book_says : List Reply
+  book_says = answers (player (book x.heap)) (calls x.exchanges) (idle (opened x.heap x.ceiling x.heap_before))
 
   abbrev pub machine_registers : List (Register Sidecar)
   machine_registers = readings (machine_after x.heap x.rack x.ceiling x.heap_before x.rack_before (calls x.exchanges)).player x.registers

@@ -81,10 +81,10 @@ minus (negsuc n) = pos (suc n)
 
 -- a step with its n turned about, and a step of a line
 abbrev pub negative : Step → Step
-negative s = record { code = s.code; d = s.d; a = s.a; b = s.b; n = minus s.n; line = s.line }
+negative s = record s { n = minus s.n }
 
 abbrev pub line : ℕ → Step → Step
-line k s = record { code = s.code; d = s.d; a = s.a; b = s.b; n = s.n; line = k }
+line k s = record s { line = k }
 
 abbrev pub numbered : ℕ → List Step → List Step
 numbered k [] = []

@@ -1,39 +1,26 @@
-use Rattle.std.proofs.Common.{◌-◌, get_or, Err, sym, ap, ◌∙◌, inl}
+use Rattle.std.proofs.Common.{Err, sym, ap, ◌∙◌, arith}
 use Rattle.std.proofs.lemmas.Result.{err_from_is_err_and}
-use Rattle.std.proofs.lemmas.Bool.{leb-true, leb-false}
-use Rattle.text.proofs.Judging.{blamed_full, blamed_count, cut_line, judged}
+use Rattle.form.specs.Reading.{entry}
+use Rattle.form.proofs.Steps.{entry_made}
+use Rattle.text.proofs.Judging.{passes, fails, is_short}
 use Rattle.text.proofs.entries.entry_of.Goals as goal
-
-pub returns-then-is_full : goal.returns-then-is_full
-returns-then-is_full c =
-    blamed_full c.args.order c.args.room c.args.count c.args.text.now c.args.from _ (leb-true _ _ (sym c.if-is_full.ensures)) c.blame.ensures
-
-pub returns-in_default : goal.returns-in_default
-returns-in_default c =
-    blamed_count c.args.order c.args.room c.args.count c.args.text.now c.args.from _ (leb-false _ _ (sym c.if-is_full.ensures)) c.in_default.ensures c.blame-in_default.ensures
 
 pub returns-in_err-operation : goal.returns-in_err-operation
 returns-in_err-operation c =
-    let five = c.in-Some.ensures in
-    let starts = c.in-Some.cuts.starts in
-    let p = err_from_is_err_and c.from_residual.result c.from_residual.ensures.1 in
+    let l = c.in_ok-line.line in
+    let cut = c.in_ok-line.ensures in
+    let p = err_from_is_err_and c.from_residual-in_err-operation.result c.from_residual-in_err-operation.ensures.1 in
     rw p.1
-    (inl (
-      get_or starts 5 0 - 1,
-      cut_line c.args.order c.args.room c.args.count c.args.text.now c.args.from starts five.0 five.1,
-      judged c.args.order c.args.room c.args.count c.args.text.now c.args.from starts five.0 five.1 five.2 (leb-false _ _ (sym c.if-is_full.ensures))
-          ∙ sym c.in_err-operation.ensures ∙ ap Err (sym p.2),
-    ))
+    (fails _ l.text.now l.starts _ l.five cut.0 cut.1 (entry c.args.columns.order 512 c.args.count) _
+    (entry_made c.args.columns.order 512 c.args.count _ (is_short _ l.text.now l.starts _ l.five cut.0 cut.1 cut.2) (omega arith) l.five.count
+    ∙ (rw c.line_number.ensures at (sym c.in_err-operation.ensures)) ∙ ap Err (sym p.2)))
 
 pub returns : goal.returns
 returns c =
-    let five = c.in-Some.ensures in
-    let starts = c.in-Some.cuts.starts in
-    record {
-      end = get_or starts 5 0 - 1;
-      line = cut_line c.args.order c.args.room c.args.count c.args.text.now c.args.from starts five.0 five.1;
-      goes = five.0.next;
-      is =
-          judged c.args.order c.args.room c.args.count c.args.text.now c.args.from starts five.0 five.1 five.2 (leb-false _ _ (sym c.if-is_full.ensures))
-          ∙ sym c.in_ok-operation.ensures;
-    }
+    let l = c.in_ok-line.line in
+    let cut = c.in_ok-line.ensures in (
+      c.after.ensures.text ∙ cut.0,
+      passes _ l.text.now l.starts _ l.five cut.0 cut.1 (entry c.args.columns.order 512 c.args.count) _ _ c.after.ensures.at
+          (entry_made c.args.columns.order 512 c.args.count _ (is_short _ l.text.now l.starts _ l.five cut.0 cut.1 cut.2) (omega arith) l.five.count
+          ∙ (rw c.line_number.ensures at (sym c.in_ok-operation.ensures))),
+    )

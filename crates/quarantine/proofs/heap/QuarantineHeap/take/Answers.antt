@@ -1,8 +1,8 @@
-use Rattle.std.proofs.Common.{◌≡◌, drop, sym, ap, ◌∙◌, arith}
-use Rattle.heaps.specs.Answers.{taken}
+use Rattle.std.proofs.Common.{◌≡◌, [], Some, None, Err, sym, ap, ◌∙◌, arith, rules}
+use Rattle.heaps.specs.Answers.{plain, taken}
 use Rattle.quarantine.specs.Rule.{quarantined, gone_below, retried}
 use Rattle.quarantine.specs.Waiting.{waiting_of}
-use Rattle.quarantine.specs.Steps.{taken_ok, taken_err, in_range, retried_granted, retried_on, retried_end, none_past}
+use Rattle.quarantine.specs.Steps.{taken_ok, taken_err, in_range, retried_granted, retried_on, retried_end}
 use Rattle.quarantine.proofs.heap.QuarantineHeap.take.Goals as goal
 
 pub returns-in-Ok : goal.returns-in-Ok
@@ -19,30 +19,35 @@ returns-in-Ok g c =
       after = ap (λ t. quarantined t w) c.take-in-loop-block.ensures.after ∙ sym (ap (λ t. t.after) e);
     }
 
-pub loop-block-preserved : goal.loop-block-preserved
-loop-block-preserved g c =
-    let m = g.H.Heap in
-    let s = m.state c.loop-block.self.below in
-    let w = waiting_of c.loop-block.self.waiting in
-    let none = taken_err _ _ c.in-Err.ensures.answer in
-    let on = retried_on m.rule c.args.n w s c.in-Some.longest none c.in-Some.ensures.is in
-    let state-is : m.state c.give.new.self ≡ gone_below m.rule c.args.n c.in-Some.longest s =
-    c.give.ensures.after ∙ ap (λ t. (m.rule.give t c.in-Some.longest).after) c.take-in-loop-block.ensures.after in
-    ap (λ v. retried m.rule c.args.n v (m.state c.give.new.self)) c.pop.ensures.rest
-    ∙ ap (retried m.rule c.args.n (drop 1 w)) state-is
-    ∙ sym on ∙ c.loop-block.invariant
-
-pub returns-in-None : goal.returns-in-None
-returns-in-None g c =
+pub returns-in_err-longest-in-Err : goal.returns-in_err-longest-in-Err
+returns-in_err-longest-in-Err g c =
     let m = g.H.Heap in
     let s = m.state c.loop-block.self.below in
     let w = waiting_of c.loop-block.self.waiting in
     let start = quarantined (m.state c.args.self.now.below) (waiting_of c.args.self.now.waiting) in
-    let e = in_range m.rule start c.args.n (omega arith) (omega arith) ∙ sym c.loop-block.invariant ∙ retried_end m.rule c.args.n w s c.in-None.ensures.is in
+    let none : c.pop_front.result ≡ None = search rules in
+    let same : c.from_residual.result ≡ Err c.in-Err.refused = search rules in
+    let ends = rw none at c.pop_front.ensures in
+    let e = in_range m.rule start c.args.n (omega arith) (omega arith) ∙ sym c.loop-block.invariant ∙ ap (λ v. retried m.rule c.args.n v s) ends.0 ∙ retried_end m.rule c.args.n s in
     record {
-      answer = c.in-Err.ensures.answer ∙ sym (ap (λ t. taken t.answer) e);
-      asked = tt;
+      answer = ap plain same ∙ c.in-Err.ensures.answer ∙ sym (ap (λ t. taken t.answer) e);
+      asked = rw same tt;
       after =
-          ap (λ v. quarantined (m.state c.take-in-loop-block.new.self) v) (c.pop.ensures.rest ∙ none_past w c.in-None.ensures.is)
-          ∙ ap (λ t. quarantined t w) c.take-in-loop-block.ensures.after ∙ sym (ap (λ t. t.after) e);
+          ap (λ v. quarantined (m.state c.take-in-loop-block.new.self) v) ends.1
+          ∙ ap (λ t. quarantined t []) c.take-in-loop-block.ensures.after ∙ sym (ap (λ t. t.after) e);
     }
+
+pub loop-block-preserved : goal.loop-block-preserved
+loop-block-preserved g c =
+    let m = g.H.Heap in
+    let s = m.state c.loop-block.self.below in
+    let x = c.in_ok-longest-in-Err.longest in
+    let some : c.pop_front.result ≡ Some x = search rules in
+    let none = taken_err _ _ c.in-Err.ensures.answer in
+    let state-is : m.state c.give.new.self ≡ gone_below m.rule c.args.n x s =
+    c.give.ensures.after ∙ ap (λ t. (m.rule.give t x).after) c.take-in-loop-block.ensures.after in
+    let split = rw some at c.pop_front.ensures in
+    ap (retried m.rule c.args.n c.pop_front.new.self) state-is
+    ∙ sym (retried_on m.rule c.args.n c.pop_front.new.self s x none)
+    ∙ sym (ap (λ v. retried m.rule c.args.n v s) split)
+    ∙ c.loop-block.invariant

@@ -1,28 +1,36 @@
-use Rattle.std.proofs.Common.{sym, refl, arith}
-use Rattle.std.proofs.lemmas.Result.{err_from_is_err_and}
+use Rattle.std.proofs.Common.{arith, ap, sym, ◌∙◌}
+use Rattle.sheets.specs.Sheets.{blocks_in, held_in}
 use Rattle.sheets.proofs.Walking.{walk_past, walk_adds, walk_ends}
 use Rattle.sheets.proofs.Showing.{stretches_show}
 use Rattle.sheets.proofs.sheet.Sheet.of.Goals as goal
 use Rattle.sheets.proofs.sheet.Sheet.of.Goals.{in-Some+in_ok-end, in_default}
 
-pub loop-cell-preserved : goal.loop-cell-preserved
-loop-cell-preserved g c =
+pub loop-start-preserved : goal.loop-start-preserved
+loop-start-preserved g c =
     elim c.match-starts_at.branch [
-      | in-Some+in_ok-end w ↦ let e = w.in_ok-end.ensures in simp (w.list-is, w.from-is, w.blocks-is, w.held-is) (walk_adds _ _ _ _ _ _ c.loop-cell.invariant (omega arith) w.in-Some.bytes _ _ (sym w.in-Some.ensures) e.0 e.1)
-      | in_default w ↦ simp (w.list-is, w.from-is, w.blocks-is, w.held-is) (walk_past _ _ _ _ _ _ c.loop-cell.invariant (omega arith) (sym w.in_default.ensures))
+      | in-Some+in_ok-end w ↦ let e = w.in_ok-end.ensures in simp (w.list-is, w.from-is, w.blocks-is, w.held-is, w.from-held.ensures) (walk_adds _ _ _ _ _ _ c.loop-start.invariant (omega arith) w.in-Some.bytes _ _ w.in-Some.ensures e.0 e.1)
+      | in_default w ↦ simp (w.list-is, w.from-is, w.blocks-is, w.held-is) (walk_past _ _ _ _ _ _ c.loop-start.invariant (omega arith) w.in_default.ensures)
     ]
 
-pub returns-in_err-end : goal.returns-in_err-end
-returns-in_err-end g c =
-    let p = err_from_is_err_and c.from_residual.result c.from_residual.ensures.1 in
-    rw p.1 record { stretches = tt; blocks = tt; held = tt; free = tt; law = stretches_show _ }
+pub invariant_of-result : goal.invariant_of-result
+invariant_of-result g c =
+    let w = walk_ends _ _ _ _ _ _ c.loop-start.invariant (omega arith) _ c.in_ok-push_gap.ensures in
+    record { counted = w.1 ∙ ap blocks_in (sym w.0); summed = w.2 ∙ ap held_in (sym w.0); rest = omega arith }
 
-pub returns-in_err-push_gap : goal.returns-in_err-push_gap
-returns-in_err-push_gap g c =
-    let p = err_from_is_err_and c.from_residual-in_err-push_gap.result c.from_residual-in_err-push_gap.ensures.1 in
-    rw p.1 record { stretches = tt; blocks = tt; held = tt; free = tt; law = stretches_show _ }
+pub returns-clause-stretches : goal.returns-clause-stretches
+returns-clause-stretches g c = (walk_ends _ _ _ _ _ _ c.loop-start.invariant (omega arith) _ c.in_ok-push_gap.ensures).0
 
-pub returns : goal.returns
-returns g c =
-    let e = walk_ends _ _ _ _ _ _ c.loop-cell.invariant (omega arith) _ c.in_ok-push_gap.ensures in
-    record { stretches = e.0; blocks = e.1; held = e.2; free = refl; law = stretches_show _ }
+pub returns-clause-blocks : goal.returns-clause-blocks
+returns-clause-blocks g c = (walk_ends _ _ _ _ _ _ c.loop-start.invariant (omega arith) _ c.in_ok-push_gap.ensures).1
+
+pub returns-clause-held : goal.returns-clause-held
+returns-clause-held g c = (walk_ends _ _ _ _ _ _ c.loop-start.invariant (omega arith) _ c.in_ok-push_gap.ensures).2
+
+pub returns-in_err-end-clause-law : goal.returns-in_err-end-clause-law
+returns-in_err-end-clause-law g c = stretches_show _
+
+pub returns-in_err-push_gap-clause-law : goal.returns-in_err-push_gap-clause-law
+returns-in_err-push_gap-clause-law g c = stretches_show _
+
+pub returns-clause-law : goal.returns-clause-law
+returns-clause-law g c = stretches_show _

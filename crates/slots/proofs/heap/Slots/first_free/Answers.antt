@@ -1,12 +1,17 @@
-use Rattle.std.proofs.Common.{sym, ◌∙◌, arith, rules}
-use Rattle.slots.specs.Search.{first_more, first_none}
+use Rattle.std.proofs.Common.{◌+◌, ◌%◌, rules, tests, arith, refl, sym, ap, ◌∙◌}
+use Rattle.std.proofs.lemmas.Iterator.{YieldsList-from_map, YieldsList-from_range}
+use Rattle.std.proofs.lemmas.Iterator.Adapters.{option_map_id}
+use Rattle.std.proofs.lemmas.Iterator.Search.{find_from_yields_List}
+use Rattle.slots.specs.Rule.{Slotted}
+use Rattle.slots.proofs.Rounds.{is_free, found_in_turn}
 use Rattle.slots.proofs.heap.Slots.first_free.Goals as goal
 
-pub returns-then-not-self-slot : goal.returns-then-not-self-slot
-returns-then-not-self-slot c = let m = first_more c.args.self.now.taken c.loop-left.left c.loop-left.slot (omega arith) in search rules
-
-pub loop-left-preserved : goal.loop-left-preserved
-loop-left-preserved c = let m = first_more c.args.self.now.taken c.loop-left.left c.loop-left.slot (omega arith) in search rules
-
-pub returns : goal.returns
-returns c = let m = first_none c.args.self.now.taken c.loop-left.left c.loop-left.slot (omega arith) in record { first = sym m ∙ c.loop-left.invariant.1; within = tt }
+pub returns-clause-first : goal.returns-clause-first
+returns-clause-first c =
+    let i = c.args.self.now.next in
+    let t = c.args.self.now.taken in
+    let found =
+    find_from_yields_List (is_free t) _ _ c.find.result c.find.ensures.ran
+    (YieldsList-from_map _ (λ d. (i + d) % 16) (YieldsList-from_range 0 16 16 c.map.ensures.source refl) c.map.ensures.closure (λ x r q k. search (rules, tests)))
+    (λ x b q k. search (rules, tests)) in
+    sym (option_map_id c.find.result) ∙ found ∙ sym (found_in_turn t i (omega (arith, ap (λ (s : Slotted). s.next) c.self.view_is)))
