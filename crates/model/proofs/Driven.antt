@@ -185,6 +185,11 @@ module _ {M : Type 0} (X : Player M) where
     counters = λ k. (in_links os s.counter s.player s.phase k).counter;
   }
 
+  -- a call more goes on from where the others lead
+  pub leads_push : (qs : List HostCall) (q : HostCall) (s : Driven M) → leads_to X (qs ++ (q ∷ [])) s ≡ (handle X q (leads_to X qs s)).after
+  leads_push [] q s = refl
+  leads_push (x ∷ qs) q s = leads_push qs q (handle X x s).after
+
   -- a call more adds its own trail
   pub trail_push : (qs : List HostCall) (q : HostCall) (s : Driven M) → trail X (qs ++ (q ∷ [])) s ≡ trail X qs s ++ entries_of X q (leads_to X qs s)
   trail_push [] q s = append-nil (entries_of X q s)

@@ -16,7 +16,7 @@ use Rattle.model.specs.declared.sidecar.Sidecar.{Sidecar}
 use Rattle.model.specs.Machine.{machine, made, OfMachine}
 use Rattle.model.specs.Grants.{Outline, is_frame, over, living_frame}
 use Rattle.model.specs.History.{nth, outline, book, opened, OfBook}
-use Rattle.model.specs.Driving.{HostCall, start}
+use Rattle.model.specs.Driving.{HostCall, Driven, start, handle}
 use Rattle.model.specs.Agreement.{idle, descent, machine_after}
 use Rattle.model.specs.Trail.{Met, met, Entry, acted, began, target, entries_of, trail}
 use Rattle.model.specs.Sights.{Sight, seen, stores, log, newest, sight_by, sight, sights}
@@ -24,7 +24,7 @@ use Rattle.model.specs.Lives.{lives}
 use Rattle.model.specs.Promise.{Access, load, store, loadb, storeb, Reaches, Endable, Clear, living_blocks, last_stored, Granted, Keeps, Promise}
 use Rattle.model.proofs.Sheeting.{Both, rows_get, SameBlock, acts_like, closes_like}
 use Rattle.model.proofs.Driving.{Matches}
-use Rattle.model.proofs.Driven.{drives, trail_push}
+use Rattle.model.proofs.Driven.{drives, leads_push, trail_push}
 use Rattle.model.proofs.Relation.{World, Alike, Rel}
 use Rattle.model.proofs.Whole.{steps, begin, same_descent, agrees}
 use Rattle.model.proofs.Tracking.{Tracks, seen_before, reverse_push, tracks_at, tracks_same, trails_track}
@@ -232,12 +232,19 @@ module _ (H : HeapRule) (R : RackRule) (P : Points H) (Q : RackPoints R) where
               go true e = refl
               go false e = rw e (and_false o.living)
 
+      closes : (os : List Step) (x : ℕ) → x < length os → (machine_after H R top s r (qs ++ (start os x ∷ []))).player.common.returns ≡ []
+      closes os x lt =
+          let m = machine_after H R top s r qs in
+          let closed : (handle (player (machine H R)) (start os x) m).after.player.common.returns ≡ [] = rw (lt-ltb x (length os) lt) in
+          ap (λ (d : Driven (OfMachine H R)). d.player.common.returns) (leads_push (player (machine H R)) qs (start os x) (idle (made H R top s r))) ∙ closed
+
       pub promised : Promise H R top s r qs
       promised = record {
         agree = agrees H R P Q top s r qs;
         places = places;
         grows = λ q. trail_push (player (machine H R)) qs q (idle (made H R top s r));
         starts = no_frame;
+        closes = closes;
         drives = λ os. drives (player (machine H R)) (machine_after H R top s r qs) os;
         refuses = refuses (player (machine H R)) (machine_after H R top s r qs);
       }

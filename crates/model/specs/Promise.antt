@@ -114,6 +114,8 @@ module _ (H : HeapRule) (R : RackRule) where
       pub grows : (q : HostCall) → trail (player (machine H R)) (qs ++ (q ∷ [])) (idle (made H R top s r)) ≡ machine_trail ++ entries_of (player (machine H R)) q (machine_after H R top s r qs)
       -- after a start that follows, no frame is living
       pub starts : (os : List Step) (x : ℕ) → x < length os → (g : ℕ) → living_frame ((lives (sights H R (trail_after (start os x)))).of g) ≡ false
+      -- and the machine has none open
+      pub closes : (os : List Step) (x : ℕ) → x < length os → (machine_after H R top s r (qs ++ (start os x ∷ []))).player.common.returns ≡ []
       -- a run that follows, with any program
       pub drives : (os : List Step) → Drives (player (machine H R)) (machine_after H R top s r qs) os
       -- a call that follows and is refused

@@ -97,4 +97,5 @@ module _ (R : HeapRule) (p : Points R) where
         large = λ n l. passes s n (inr l);
         off_waiting = λ n. off_waiting s n h;
         joins = λ x. joins s x h;
+        clears = record { below = refl; waits = refl };
       }

@@ -61,6 +61,11 @@ module _ (R : HeapRule) where
     pub full_waits : g.answer ≡ true → (y : ℕ) (w : List ℕ) → s.waiting ≡ y ∷ w → length s.waiting ≡ 16 → g.after.waiting ≡ w ++ (x ∷ [])
     pub full_below : g.answer ≡ true → (y : ℕ) (w : List ℕ) → s.waiting ≡ y ∷ w → length s.waiting ≡ 16 → FirstGoes y s.below g.after.below
 
+  -- a clear clears below, and nobody waits after it
+  pub record Clears (s t : Quarantined R.State) : Type 0 where
+    pub below : t.below ≡ R.clear s.below
+    pub waits : t.waiting ≡ []
+
   pub record KeepsRules (s : Quarantined R.State) : Type 0 where
     pub waits : Waits s
     pub lives : Lives s
@@ -69,6 +74,7 @@ module _ (R : HeapRule) where
     pub large : (n : ℕ) → 4096 < n → Passes n s ((quarantine_rule R).take s n)
     pub off_waiting : (n : ℕ) → OffWaiting ((quarantine_rule R).take s n)
     pub joins : (x : ℕ) → Joins x s ((quarantine_rule R).give s x)
+    pub clears : Clears s ((quarantine_rule R).clear s)
 
   -- from the first clear on
   abbrev pub QuarantineRules : Type 0
