@@ -1,5 +1,4 @@
 pub mod Rule
-pub mod State
 pub mod Top
 pub mod Fits
 pub mod Examples

@@ -39,7 +39,7 @@ pub trait Heap {
             asked: _,
             held: _,
         } = block;
-        // The block was granted and not given since, so the answer says nothing.
+        // A block that another heap granted may be refused here; it is spent all the same.
         let _ = self.give(start);
     }
 

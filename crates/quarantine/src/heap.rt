@@ -36,7 +36,7 @@ impl<H: Heap> Quarantine<H> {
         if self.waiting.is_full()
             && let Some(longest) = self.waiting.pop_front()
         {
-            // What waits lives below, so this give is not refused.
+            // From the first clear on what waits lives below, so this is not refused.
             let _ = self.below.give(longest);
         }
         // There is room now.
@@ -60,7 +60,7 @@ impl<H: Heap> Heap for Quarantine<H> {
                 Ok(block) => return Ok(block),
                 Err(refused) => {
                     let longest = self.waiting.pop_front().ok_or(refused)?;
-                    // What waited lives below, so this give is not refused.
+                    // From the first clear on what waited lives below, so this is not refused.
                     let _ = self.below.give(longest);
                 }
             }

@@ -18,8 +18,8 @@ pub(crate) fn fresh_places() -> [u8; PLACES]
         |before| -> u8
             requires { before < 255 }
             ensures { result ≡ before + 1 }
-        // proved to fit
         {
+            // proved to fit
             before as u8 + 1
         },
     )

@@ -139,8 +139,8 @@ impl<T, const N: usize> Ring<T, N> {
         self.count = 0;
     }
 
-    // The items in two runs, one after the other.
-    pub fn as_slices(&self) -> (&[T], &[T])
+    // The items in two runs, one after the other. Where they part is the ring's own affair, so nobody outside sees them.
+    pub(crate) fn as_slices(&self) -> (&[T], &[T])
         ensures { result.0.now ++ result.1.now ≡ self.now }
     {
         let cells = &self.cells[..];

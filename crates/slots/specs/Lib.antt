@@ -1,5 +1,4 @@
 pub mod Rule
-pub mod State
 pub mod Turns
 pub mod Keeping
 pub mod Search
