@@ -1,7 +1,7 @@
 // The best-fit heap and its calls.
-ghost use Rattle.std.specs.Prelude.{◌≡◌, ℕ, ◌+◌, ◌<◌, ◌≤◌, List, IfSome};
+ghost use Rattle.std.specs.Prelude.{◌≡◌, ℕ, ◌+◌, ◌<◌, ◌≤◌, List, IfSome, length};
 ghost use Rattle.best_fit.specs.Top.{IsTop};
-ghost use Rattle.best_fit.specs.Rule.{best_fit_rule, best_of, cell_at, cleared};
+ghost use Rattle.best_fit.specs.Rule.{best_fit_rule, best_fit_held, best_of, cell_at, cleared};
 ghost use Rattle.best_fit.specs.Keeping.{best_fit_points};
 
 use crate::gap::{CELLS, Gap, better};
@@ -69,10 +69,15 @@ impl BestFit {
     fn cell_at(&self, start: u64) -> Option<usize>
         ensures cell { result ≡ cell_at self.now start }
         ensures within { IfSome result (λ i. i < 512) }
+        ensures cells { length self.now ≡ 512 }
     {
+        let cells = &self.cells;
+        if start % CELL_BYTES != 0 {
+            return None;
+        }
         let cell = usize::try_from(start / CELL_BYTES).ok()?;
-        let held = *self.cells.get(cell)?;
-        (held > 0 && start % CELL_BYTES == 0).then_some(cell)
+        let held = *cells.get(cell)?;
+        (held > 0).then_some(cell)
     }
 }
 
@@ -83,6 +88,7 @@ impl Heap for BestFit {
 
     ghost points = { best_fit_points };
 
+    #[inline]
     fn take(&mut self, n: u64) -> Result<Bare, Fault> {
         if n == 0 || n > HEAP_BYTES {
             return Err(Fault::whole(Cause::TakeRefused));
@@ -102,6 +108,7 @@ impl Heap for BestFit {
         )
     }
 
+    #[inline]
     fn give(&mut self, start: u64) -> Result<(), Fault> {
         let cell = self
             .cell_at(start)
@@ -113,7 +120,12 @@ impl Heap for BestFit {
         Ok(())
     }
 
-    fn holds(&self, start: u64) -> Option<u64> {
+    // It tells how many cells there are too: of a heap that is seen as a list, nothing else does.
+    #[inline]
+    fn holds(&self, start: u64) -> Option<u64>
+        ensures held { result ≡ best_fit_held self.now start }
+        ensures cells { length self.now ≡ 512 }
+    {
         self.cell_at(start)
             .map(|cell| CELL_BYTES * u64::from(self.cells[cell]))
     }

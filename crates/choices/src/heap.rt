@@ -15,6 +15,7 @@ impl<A: Heap, B: Heap> Heap for Choice<A, B> {
 
     ghost points = { either_points A.Heap.rule B.Heap.rule A.Heap.points B.Heap.points };
 
+    #[inline]
     fn take(&mut self, n: u64) -> Result<Bare, Fault> {
         match self {
             Choice::First(heap) => heap.take(n),
@@ -22,6 +23,7 @@ impl<A: Heap, B: Heap> Heap for Choice<A, B> {
         }
     }
 
+    #[inline]
     fn give(&mut self, start: u64) -> Result<(), Fault> {
         match self {
             Choice::First(heap) => heap.give(start),
@@ -29,6 +31,8 @@ impl<A: Heap, B: Heap> Heap for Choice<A, B> {
         }
     }
 
+    // Always, since a sheet asks it of every cell.
+    #[inline(always)]
     fn holds(&self, start: u64) -> Option<u64> {
         match self {
             Choice::First(heap) => heap.holds(start),

@@ -30,12 +30,15 @@ fn bounded_of(digits: &[u8], most: u64) -> Option<u64>
     Some(v)
 }
 
-// The same of a plain numeral: at least one digit, and no zero in front of others.
+// The same of a plain numeral: at least one digit, and no zero in front of others. A lone digit, as most numerals are, has an
+// arm of its own, which compiles to no loop.
 fn natural_of(digits: &[u8], most: u64) -> Option<u64>
     ensures { result ≡ natural most digits.now }
 {
     match digits {
-        [] | [b'0', _, ..] => None,
+        [] => None,
+        [_] => bounded_of(digits, most),
+        [b'0', ..] => None,
         _ => bounded_of(digits, most),
     }
 }

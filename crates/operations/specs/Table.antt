@@ -1,5 +1,5 @@
 -- The table of the 22 operations. Assumes nothing.
-use Rattle.std.specs.Prelude.{◌≡◌, ℕ, Bool, true, false, List, [], ◌∷◌, codes, Option, slice_get}
+use Rattle.std.specs.Prelude.{◌≡◌, ℕ, Bool, true, false, cond, List, [], ◌∷◌, length, codes, Option, ◌==◌, nat_lt, slice_get, slice_index}
 use Rattle.std.specs.List.{find}
 use Rattle.std.specs.Str.{bytes_eq}
 use Rattle.operations.specs.declared.code.Code.{Code}
@@ -113,3 +113,21 @@ code_at k = slice_get every k
 -- the operation of a word
 unfoldable pub code_of : List ℕ → Option Code
 code_of w = find (λ c. bytes_eq w (row c).word) every
+
+-- the only operation that a word can name, by its first two letters and its length: how the code finds it, with no promise of its own
+abbrev pub guessed_by : ℕ → ℕ → ℕ → Code
+guessed_by one two size =
+    cond (one == 97) (cond (size == 3) Add Addi)
+    (cond (one == 99) (cond (two == 111) Copy Call)
+    (cond (one == 100) Div
+    (cond (one == 102) Frame
+    (cond (one == 103) (cond (two == 108) Global Grab)
+    (cond (one == 106) (cond (two == 117) Jump Jzero)
+    (cond (one == 108) (cond (two == 101) Less (cond (size == 4) Load Loadb))
+    (cond (one == 109) Mul
+    (cond (one == 114) (cond (size == 3) Ret Release)
+    (cond (one == 115) (cond (two == 101) Set (cond (two == 117) Sub (cond (size == 4) Stop (cond (size == 5) Store Storeb))))
+    Out)))))))))
+
+abbrev pub guessed : List ℕ → Code
+guessed w = cond (nat_lt (length w) 2) Out (guessed_by (slice_index w 0) (slice_index w 1) (length w))

@@ -1,10 +1,9 @@
 // The 22 operations: one table of word, used columns and extra, which reading, vetting and running all go by.
 ghost use Rattle.std.specs.Prelude.{◌≡◌, slice_get};
-ghost use Rattle.std.specs.List.{find};
 ghost use Rattle.std.specs.Result.{result_ok};
 ghost use Rattle.std.specs.Str.{bytes_eq};
 ghost use Rattle.operations.specs.Sound.{leads};
-ghost use Rattle.operations.specs.Table.{row, number_of, code_at, code_of, Tells};
+ghost use Rattle.operations.specs.Table.{row, number_of, code_at, code_of, guessed, Tells};
 
 use crate::unknown::{UnknownCode, UnknownWord};
 use crate::uses::Uses;
@@ -108,7 +107,8 @@ impl Code {
         }
     }
 
-    // Whether the word of a text is the operation's.
+    // Whether the word of a text is the operation's. Inlined first, so that it is compiled knowing which operations were guessed.
+    #[inline(always)]
     fn is_named(self, word: &[u8]) -> bool
         ensures { result ≡ bytes_eq word.now (row self).word }
     {
@@ -149,23 +149,54 @@ impl TryFrom<&[u8]> for Code {
 
     ghost try_from_gives = { λ word r. result_ok r ≡ code_of word.now };
 
-    #[tactic(auto, unfolding(crate::specs::Table::code_of))]
+    #[tactic(auto, using(crate::proofs::Words::guess_right))]
     fn try_from(word: &[u8]) -> Result<Code, UnknownWord> {
-        first_named(&EVERY, word).ok_or(UnknownWord)
+        let code = guess(word);
+        if code.is_named(word) {
+            Ok(code)
+        } else {
+            Err(UnknownWord)
+        }
     }
 }
 
-// The operation that has the number among these. The list is a parameter, here and below, since the proof is over any.
+// The operation that has the number among these. The list is a parameter, since the proof is over any.
 fn numbered(codes: &[Code], number: u8) -> Option<Code>
     ensures { result ≡ slice_get codes.now number }
 {
     codes.get(usize::from(number)).copied()
 }
 
-// The first of the operations that the word names. Guessing it by letters and length first read a text 3 to 10 in a hundred
-// faster, and had a definition of its own to prove.
-fn first_named(codes: &[Code], word: &[u8]) -> Option<Code>
-    ensures { result ≡ find (λ code. bytes_eq word.now (row code).word) codes.now }
+// The only operation that the word can name: its first two letters and its length tell the words apart, so that one comparison
+// is enough.
+fn guess(word: &[u8]) -> Code
+    ensures { result ≡ guessed word.now }
 {
-    codes.iter().copied().find(|code| code.is_named(word))
+    let [first, second, ..] = *word else {
+        return Code::Out;
+    };
+    match (first, second, word.len()) {
+        (b'a', _, 3) => Code::Add,
+        (b'a', _, _) => Code::Addi,
+        (b'c', b'o', _) => Code::Copy,
+        (b'c', _, _) => Code::Call,
+        (b'd', _, _) => Code::Div,
+        (b'f', _, _) => Code::Frame,
+        (b'g', b'l', _) => Code::Global,
+        (b'g', _, _) => Code::Grab,
+        (b'j', b'u', _) => Code::Jump,
+        (b'j', _, _) => Code::Jzero,
+        (b'l', b'e', _) => Code::Less,
+        (b'l', _, 4) => Code::Load,
+        (b'l', _, _) => Code::Loadb,
+        (b'm', _, _) => Code::Mul,
+        (b'r', _, 3) => Code::Ret,
+        (b'r', _, _) => Code::Release,
+        (b's', b'e', _) => Code::Set,
+        (b's', b'u', _) => Code::Sub,
+        (b's', _, 4) => Code::Stop,
+        (b's', _, 5) => Code::Store,
+        (b's', _, _) => Code::Storeb,
+        _ => Code::Out,
+    }
 }

@@ -28,9 +28,6 @@ impl TryFrom<&Operation> for Step {
 
     fn try_from(operation: &Operation) -> Result<Step, UnfitRecord> {
         let code = Code::try_from(operation.code)?;
-        if !operation.fits(code.row().uses) {
-            return Err(UnfitRecord);
-        }
         let Operation {
             d,
             a,
@@ -39,6 +36,9 @@ impl TryFrom<&Operation> for Step {
             line,
             ..
         } = *operation;
+        if !operation.fits(code.row().uses) {
+            return Err(UnfitRecord);
+        }
         Ok(Step {
             code,
             d,

@@ -1,5 +1,5 @@
 // A heap over another heap: what is given waits in line, and goes below when the line is full or a take needs the room.
-ghost use Rattle.std.specs.Prelude.{◌≡◌, []};
+ghost use Rattle.std.specs.Prelude.{◌≡◌, ◌≤◌, [], length};
 ghost use Rattle.quarantine.specs.Rule.{quarantine_rule, quarantined, joined};
 ghost use Rattle.quarantine.specs.Waiting.{waiting_of};
 ghost use Rattle.quarantine.specs.Sound.{quarantine_points};
@@ -16,9 +16,12 @@ use rings::ring::Ring;
 pub struct Quarantine<H> {
     below: H,
     waiting: Ring<u64, MOST_WAITING>,
+    // Said here, since a ring that is seen as a list tells nobody how long it can be.
+    ghost few: { length (waiting_of waiting) ≤ 16 },
 }
 
 impl<H: Heap> Quarantine<H> {
+    #[inline]
     pub fn new(below: H) -> Quarantine<H>
         ensures below { result.below ≡ below }
         ensures waiting { waiting_of result.waiting ≡ [] }
@@ -30,6 +33,7 @@ impl<H: Heap> Quarantine<H> {
     }
 
     // Puts a block to wait; when the line is full, the longest waiting goes below first.
+    #[inline]
     fn wait(&mut self, start: u64)
         ensures { quarantined (H.state self.new.below) (waiting_of self.new.waiting) ≡ joined H.rule start (waiting_of self.old.waiting) (H.state self.old.below) }
     {
@@ -51,6 +55,7 @@ impl<H: Heap> Heap for Quarantine<H> {
 
     ghost points = { quarantine_points H.Heap.rule H.Heap.points };
 
+    #[inline]
     fn take(&mut self, n: u64) -> Result<Bare, Fault> {
         if n == 0 || n > HEAP_BYTES {
             return self.below.take(n);
@@ -67,20 +72,25 @@ impl<H: Heap> Heap for Quarantine<H> {
         }
     }
 
+    #[inline]
     fn give(&mut self, start: u64) -> Result<(), Fault> {
-        self.holds(start)
-            .ok_or_else(|| Fault::whole(Cause::GiveRefused))?;
+        let Some(_) = self.holds(start) else {
+            return Err(Fault::whole(Cause::GiveRefused));
+        };
         self.wait(start);
         Ok(())
     }
 
+    #[inline]
     fn holds(&self, start: u64) -> Option<u64> {
-        if self.waiting.contains(&start) {
+        // Often nobody waits, and nothing is searched then.
+        if !self.waiting.is_empty() && self.waiting.contains(&start) {
             return None;
         }
         self.below.holds(start)
     }
 
+    #[inline]
     fn clear(&mut self) {
         self.below.clear();
         self.waiting.clear();

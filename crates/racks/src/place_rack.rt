@@ -24,6 +24,7 @@ pub struct PlaceRack<J> {
 
 impl<J: Joins> PlaceRack<J> {
     // A rack as after a clear.
+    #[inline]
     pub fn new() -> PlaceRack<J>
         ensures { row_of result.back result.out ≡ fresh_row }
     {
@@ -43,6 +44,7 @@ impl<J: Joins> Rack for PlaceRack<J> {
 
     ghost points = { row_points J.joined J.once };
 
+    #[inline]
     fn draw(&mut self) -> Result<u8, Fault> {
         let place = self
             .back
@@ -52,6 +54,7 @@ impl<J: Joins> Rack for PlaceRack<J> {
         Ok(place)
     }
 
+    #[inline]
     fn put(&mut self, place: u8) -> Result<(), Fault> {
         if !self.out[usize::from(place)] {
             return Err(Fault::whole(Cause::PutRefused));
@@ -62,6 +65,7 @@ impl<J: Joins> Rack for PlaceRack<J> {
         Ok(())
     }
 
+    #[inline]
     fn clear(&mut self) {
         *self = PlaceRack::new();
     }

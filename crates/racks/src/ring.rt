@@ -14,6 +14,7 @@ impl Joins for AtEnd {
 
     ghost once = { joins_end };
 
+    #[inline]
     fn join(back: &mut Ring<u8, PLACES>, place: u8) -> Result<(), u8> {
         back.push_back(place)
     }

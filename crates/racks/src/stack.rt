@@ -14,6 +14,7 @@ impl Joins for InFront {
 
     ghost once = { joins_front };
 
+    #[inline]
     fn join(back: &mut Ring<u8, PLACES>, place: u8) -> Result<(), u8> {
         back.push_front(place)
     }

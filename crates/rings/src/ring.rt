@@ -40,6 +40,15 @@ fn after(cells: usize, first: usize, steps: usize) -> usize
     }
 }
 
+// The cell next to another, as the one a step after it.
+#[inline]
+fn next(cells: usize, first: usize) -> usize
+    requires { first < cells }
+    ensures { result ≡ cell cells first 1 }
+{
+    if first == cells - 1 { 0 } else { first + 1 }
+}
+
 // The cell before another: the last one that the steps after it come to.
 #[inline]
 fn before(cells: usize, first: usize) -> usize
@@ -53,6 +62,7 @@ fn before(cells: usize, first: usize) -> usize
 impl<T, const N: usize> From<[T; N]> for Ring<T, N> {
     ghost from_gives = { λ items ring. ring ≡ items };
 
+    #[inline]
     fn from(items: [T; N]) -> Ring<T, N> {
         Ring {
             cells: items,
@@ -64,6 +74,7 @@ impl<T, const N: usize> From<[T; N]> for Ring<T, N> {
 
 impl<T: Copy + Default, const N: usize> Ring<T, N> {
     // A ring with nothing in it.
+    #[inline]
     pub fn new() -> Ring<T, N>
         ensures { result ≡ [] }
     {
@@ -77,6 +88,7 @@ impl<T: Copy + Default, const N: usize> Ring<T, N> {
 
 impl<T: Copy, const N: usize> Ring<T, N> {
     // Puts an item last, or hands it back where there is no room.
+    #[inline]
     pub fn push_back(&mut self, item: T) -> Result<(), T>
         ensures room { IsOk result ↔ (length self.old < N) }
         ensures joins { OnOk result (self.new ≡ self.old ++ item ∷ []) }
@@ -92,6 +104,7 @@ impl<T: Copy, const N: usize> Ring<T, N> {
     }
 
     // Puts an item first, or hands it back where there is no room.
+    #[inline]
     pub fn push_front(&mut self, item: T) -> Result<(), T>
         ensures room { IsOk result ↔ (length self.old < N) }
         ensures joins { OnOk result (self.new ≡ item ∷ self.old) }
@@ -101,13 +114,16 @@ impl<T: Copy, const N: usize> Ring<T, N> {
         if self.is_full() {
             return Err(item);
         }
-        self.first = before(N, self.first);
-        self.cells[self.first] = item;
-        self.count += 1;
+        let first = before(N, self.first);
+        let count = self.count + 1;
+        self.cells[first] = item;
+        self.first = first;
+        self.count = count;
         Ok(())
     }
 
     // Takes the first item out.
+    #[inline]
     pub fn pop_front(&mut self) -> Option<T>
         ensures { MatchOption result ((self.old ≡ []) × (self.new ≡ [])) (λ x. self.old ≡ x ∷ self.new) }
     {
@@ -115,12 +131,13 @@ impl<T: Copy, const N: usize> Ring<T, N> {
             return None;
         }
         let item = self.cells[self.first];
-        self.first = after(N, self.first, 1);
+        self.first = next(N, self.first);
         self.count -= 1;
         Some(item)
     }
 
     // Takes the last item out.
+    #[inline]
     pub fn pop_back(&mut self) -> Option<T>
         ensures { MatchOption result ((self.old ≡ []) × (self.new ≡ [])) (λ x. self.old ≡ self.new ++ x ∷ []) }
     {
@@ -133,6 +150,7 @@ impl<T: Copy, const N: usize> Ring<T, N> {
 }
 
 impl<T, const N: usize> Ring<T, N> {
+    #[inline]
     pub fn clear(&mut self)
         ensures { self.new ≡ [] }
     {
@@ -140,6 +158,7 @@ impl<T, const N: usize> Ring<T, N> {
     }
 
     // The items in two runs, one after the other. Where they part is the ring's own affair, so nobody outside sees them.
+    #[inline]
     pub(crate) fn as_slices(&self) -> (&[T], &[T])
         ensures { result.0.now ++ result.1.now ≡ self.now }
     {

@@ -4,3 +4,5 @@
 pub mod drawing;
 pub mod sheet;
 pub mod stretch;
+#[cfg(test)]
+mod tests;

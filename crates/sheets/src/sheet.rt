@@ -1,5 +1,5 @@
 // The placement sheet of a heap: its blocks and the gaps between them, by address.
-ghost use Rattle.std.specs.Prelude.{◌≡◌, ◌+◌, ◌-◌, ◌++◌, IfOk, Some, OnOk};
+ghost use Rattle.std.specs.Prelude.{◌≡◌, ◌-◌, ◌++◌, IfOk, Some, OnOk};
 ghost use Rattle.sheets.specs.Sheets.{starts_at, gap_to, size_at, found_at, end_after, stretches_of, Shows, blocks_in, held_in};
 
 use crate::stretch::{Kind, Stretch};
@@ -20,9 +20,6 @@ pub struct Sheet {
     pub blocks: u64,
     pub held: u64,
     pub free: u64,
-    ghost counted: { blocks ≡ blocks_in stretches.items },
-    ghost summed: { held ≡ held_in stretches.items },
-    ghost rest: { held + free ≡ 4096 },
 }
 
 // The held size of the block that starts there, if one does and no block before it reaches so far.

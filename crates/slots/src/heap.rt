@@ -1,6 +1,6 @@
 // The slot heap and its calls.
-ghost use Rattle.std.specs.Prelude.{◌≡◌, ◌<◌, IfSome};
-ghost use Rattle.slots.specs.Rule.{Slotted, slots_rule, slotted, cleared, first_free, slot_at};
+ghost use Rattle.std.specs.Prelude.{◌≡◌, ◌<◌, IfSome, length};
+ghost use Rattle.slots.specs.Rule.{Slotted, slots_rule, slots_held, slotted, cleared, first_free, slot_at};
 ghost use Rattle.slots.specs.Keeping.{slots_points};
 
 use faults::cause::Cause;
@@ -51,14 +51,20 @@ impl Slots {
     }
 
     // The slot of the living block that starts there. The best-fit heap's look-up differs in the size and in what stands in a
-    // cell; three lines are no longer than one function over both.
+    // cell; a few lines are no longer than one function over both.
     fn slot_at(&self, start: u64) -> Option<usize>
         ensures slot { result ≡ slot_at self.now.taken start }
         ensures within { IfSome result (λ i. i < 16) }
+        ensures slots { length self.now.taken ≡ 16 }
+        ensures turn { self.now.next < 16 }
     {
+        let slots = &self.taken;
+        if start % SLOT_BYTES != 0 {
+            return None;
+        }
         let slot = usize::try_from(start / SLOT_BYTES).ok()?;
-        let taken = *self.taken.get(slot)?;
-        (taken && start % SLOT_BYTES == 0).then_some(slot)
+        let taken = *slots.get(slot)?;
+        taken.then_some(slot)
     }
 }
 
@@ -73,9 +79,9 @@ impl Heap for Slots {
         if n == 0 || n > SLOT_BYTES {
             return Err(Fault::whole(Cause::TakeRefused));
         }
-        let slot = self
-            .first_free()
-            .ok_or_else(|| Fault::whole(Cause::TakeRefused))?;
+        let Some(slot) = self.first_free() else {
+            return Err(Fault::whole(Cause::TakeRefused));
+        };
         self.taken[slot] = true;
         self.next = (slot + 1) % SLOTS;
         // no From leads from usize to u64
@@ -90,7 +96,12 @@ impl Heap for Slots {
         Ok(())
     }
 
-    fn holds(&self, start: u64) -> Option<u64> {
+    // It tells how many slots there are too, and that the next one tried is one of them.
+    fn holds(&self, start: u64) -> Option<u64>
+        ensures held { result ≡ slots_held self.now start }
+        ensures slots { length self.now.taken ≡ 16 }
+        ensures turn { self.now.next < 16 }
+    {
         self.slot_at(start).map(|_| SLOT_BYTES)
     }
 

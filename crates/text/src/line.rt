@@ -22,6 +22,7 @@ pub struct Line<'a> {
 
 impl<'a> Line<'a> {
     // The value in a place of the line.
+    #[inline(always)]
     pub(crate) fn value(&self, place: usize) -> Value<'a>
         requires { place < 5 }
         ensures at { (piece_of result).at ≡ slice_index self.now.starts place }

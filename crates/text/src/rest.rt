@@ -1,6 +1,6 @@
 // What is left of the text, and the line that it begins with, cut into its values in one pass.
-ghost use Rattle.std.specs.Prelude.{◌≡◌, ◌+◌, ◌-◌, ◌<◌, ◌≤◌, length, drop, MatchOption, MatchResult, ◌≢◌, slice_index, ◌==◌};
-ghost use Rattle.text.specs.Lines.{Ended, Endless, Run, Past, Astray, Other, Misfit, Blamed};
+ghost use Rattle.std.specs.Prelude.{◌≡◌, ◌+◌, ◌-◌, ◌<◌, ◌≤◌, ◌⊎◌, length, drop, MatchOption, MatchResult, slice_index, ◌==◌};
+ghost use Rattle.text.specs.Lines.{Ended, Endless, Run, Past, Astray, Five, Other, Misfit, Blamed};
 
 use crate::line::Line;
 use faults::cause::Cause;
@@ -31,48 +31,56 @@ impl<'a> Rest<'a> {
         self.at == self.text.len()
     }
 
-    // The first comma or line end, or the text's end.
-    fn value_end(self) -> usize
-        ensures run { Run self.entry.text.now self.entry.at result }
-        ensures stop { result < length self.entry.text.now → (slice_index self.entry.text.now result ≢ 10) → slice_index self.entry.text.now result ≡ 44 }
+    // The first comma or line end.
+    #[inline]
+    fn value_end(self) -> Option<usize>
+        ensures { MatchOption result (Run self.entry.text.now self.entry.at (length self.entry.text.now)) (λ n. Run self.entry.text.now self.entry.at n × (n < length self.entry.text.now) × ((slice_index self.entry.text.now n ≡ 10) ⊎ (slice_index self.entry.text.now n ≡ 44))) }
     {
-        match self.bytes().iter().position(|b| *b == b',' || *b == b'\n') {
-            Some(length) => self.at + length,
-            None => self.text.len(),
-        }
+        (self.at..self.text.len()).find(|at| matches!(self.text[*at], b',' | b'\n'))
     }
 
     // What follows the value, where that ends before the byte `stop`.
+    #[inline]
     fn past(self, stop: u8) -> Option<Rest<'a>>
         ensures { MatchOption result (Astray self.entry.text.now stop self.entry.at) (λ r. (r.text.now ≡ self.entry.text.now) × Past self.entry.text.now stop self.entry.at r.at) }
     {
-        let end = self.value_end();
-        if self.text.get(end) == Some(&stop) {
-            Some(Rest {
+        match self.value_end() {
+            Some(end) if self.text[end] == stop => Some(Rest {
                 text: self.text,
                 at: end + 1,
-            })
-        } else {
-            None
+            }),
+            _ => None,
         }
     }
 
-    // The five values of the line, or nothing where it has no end, or fewer or more values.
-    fn cut(self) -> Option<Line<'a>>
-        ensures { MatchOption result (Other self.entry.text.now self.entry.at) (λ l. (l.text.now ≡ self.entry.text.now) × (slice_index l.starts 0 ≡ self.entry.at)) }
+    // Where the five values of the line begin, and where the next line does, or nothing where it has no end, or fewer or more
+    // values. A call of its own that hands back no text: inside the reader its loops would keep their places in memory.
+    #[inline(never)]
+    fn starts(self) -> Option<[usize; 6]>
+        ensures { MatchOption result (Other self.entry.text.now self.entry.at) (λ s. Five self.entry.text.now s × (slice_index s 0 ≡ self.entry.at)) }
     {
         let second = self.past(b',')?;
         let third = second.past(b',')?;
         let fourth = third.past(b',')?;
         let fifth = fourth.past(b',')?;
         let next = fifth.past(b'\n')?;
+        Some([self.at, second.at, third.at, fourth.at, fifth.at, next.at])
+    }
+
+    // The same as a line.
+    #[inline]
+    fn cut(self) -> Option<Line<'a>>
+        ensures { MatchOption result (Other self.entry.text.now self.entry.at) (λ l. (l.text.now ≡ self.entry.text.now) × (slice_index l.starts 0 ≡ self.entry.at)) }
+    {
+        let starts = self.starts()?;
         Some(Line {
             text: self.text,
-            starts: [self.at, second.at, third.at, fourth.at, fifth.at, next.at],
+            starts,
         })
     }
 
     // The five values of a line of at most 80 bytes, or why it is refused: by `other` where it does not have five.
+    #[inline]
     pub(crate) fn line(self, other: Cause) -> Result<Line<'a>, Cause>
         ensures { MatchResult result (λ l. (l.text.now ≡ self.entry.text.now) × (slice_index l.starts 0 ≡ self.entry.at) × (slice_index l.starts 5 - 1 - self.entry.at ≤ 80)) (λ c. Misfit self.entry.text.now self.entry.at × Blamed self.entry.text.now self.entry.at other c) }
     {

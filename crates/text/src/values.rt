@@ -27,6 +27,7 @@ pub enum Value<'a> {
 impl<'a> From<Piece<'a>> for Value<'a> {
     ghost from_gives = { λ p v. (piece_of v ≡ p) × (says_of v ≡ says p.bytes.now) };
 
+    #[inline(always)]
     fn from(piece: Piece<'a>) -> Value<'a> {
         if piece.bytes.is_empty() {
             return Value::Blank(piece);
@@ -87,16 +88,14 @@ impl<'a> Value<'a> {
         }
     }
 
-    // The register in a column: 0 to 15, and 0 where the operation uses none.
+    // The register in a column: 0 to 15, and 0 where the operation uses none. The cast loses nothing.
     pub(crate) fn register(self, used: bool) -> Result<u8, Cause>
         ensures { result ≡ register_of used (says_of self.entry) }
     {
         match self.column(used)? {
             None => Ok(0),
-            Some(n) => u8::try_from(n)
-                .ok()
-                .filter(|r| *r <= 15)
-                .ok_or(Cause::BadNumber),
+            Some(n @ 0..=15) => Ok(n as u8),
+            Some(_) => Err(Cause::BadNumber),
         }
     }
 

@@ -8,4 +8,4 @@ returns g c =
     let some = some_items r.first r.count r.cells c.args.self.now c.self.view_is (sym c.is_empty.ensures ∙ c.if-is_empty.false) in
     let start : r.first < g.row.N = omega arith in
     let split = window_first g.row.N r.first r.count r.cells start c.self.invariant.1 (search rules) c.index-self-self.result some in
-    rw c.after-self-inside.ensures (sym c.self.view_is ∙ split)
+    rw c.next-self-inside.ensures (sym c.self.view_is ∙ split)

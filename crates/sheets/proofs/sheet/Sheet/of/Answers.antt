@@ -1,5 +1,4 @@
-use Rattle.std.proofs.Common.{arith, ap, sym, ◌∙◌}
-use Rattle.sheets.specs.Sheets.{blocks_in, held_in}
+use Rattle.std.proofs.Common.{arith}
 use Rattle.sheets.proofs.Walking.{walk_past, walk_adds, walk_ends}
 use Rattle.sheets.proofs.Showing.{stretches_show}
 use Rattle.sheets.proofs.sheet.Sheet.of.Goals as goal
@@ -11,11 +10,6 @@ loop-start-preserved g c =
       | in-Some+in_ok-end w ↦ let e = w.in_ok-end.ensures in simp (w.list-is, w.from-is, w.blocks-is, w.held-is, w.from-held.ensures) (walk_adds _ _ _ _ _ _ c.loop-start.invariant (omega arith) w.in-Some.bytes _ _ w.in-Some.ensures e.0 e.1)
       | in_default w ↦ simp (w.list-is, w.from-is, w.blocks-is, w.held-is) (walk_past _ _ _ _ _ _ c.loop-start.invariant (omega arith) w.in_default.ensures)
     ]
-
-pub invariant_of-result : goal.invariant_of-result
-invariant_of-result g c =
-    let w = walk_ends _ _ _ _ _ _ c.loop-start.invariant (omega arith) _ c.in_ok-push_gap.ensures in
-    record { counted = w.1 ∙ ap blocks_in (sym w.0); summed = w.2 ∙ ap held_in (sym w.0); rest = omega arith }
 
 pub returns-clause-stretches : goal.returns-clause-stretches
 returns-clause-stretches g c = (walk_ends _ _ _ _ _ _ c.loop-start.invariant (omega arith) _ c.in_ok-push_gap.ensures).0

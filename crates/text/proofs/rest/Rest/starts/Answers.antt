@@ -1,6 +1,6 @@
-use Rattle.std.proofs.Common.{arith}
+use Rattle.std.proofs.Common.{refl, arith}
 use Rattle.text.proofs.Fives.{one_more, no_comma, no_end, five}
-use Rattle.text.proofs.rest.Rest.cut.Goals as goal
+use Rattle.text.proofs.rest.Rest.starts.Goals as goal
 
 pub returns-in_err-second : goal.returns-in_err-second
 returns-in_err-second c = rw c.from_residual.ensures (no_comma _ _ 5 (λ e. omega arith) c.in_err-second.ensures)
@@ -35,7 +35,8 @@ returns-in_err-next c =
     (one_more _ _ _ _ 1 c.in_ok-fifth.ensures
     (no_end _ _ c.in_err-next.ensures)))))
 
-pub invariant_of-result : goal.invariant_of-result
-invariant_of-result c = record {
-  five = five _ _ _ _ _ _ _ _ _ _ _ _ c.in_ok-second.ensures c.in_ok-third.ensures c.in_ok-fourth.ensures c.in_ok-fifth.ensures c.in_ok-next.ensures;
-}
+pub returns : goal.returns
+returns c = (
+  five _ _ _ _ _ _ _ _ _ _ _ _ c.in_ok-second.ensures c.in_ok-third.ensures c.in_ok-fourth.ensures c.in_ok-fifth.ensures c.in_ok-next.ensures,
+  refl,
+)
