@@ -1,7 +1,7 @@
 // The best-fit heap and its calls.
-ghost use Rattle.std.specs.Prelude.{◌≡◌, ℕ, ◌+◌, ◌<◌, ◌≤◌, List, IfSome, length};
+ghost use Rattle.std.specs.Prelude.{◌≡◌, ◌+◌, ◌<◌, ◌≤◌, IfSome};
 ghost use Rattle.best_fit.specs.Top.{IsTop};
-ghost use Rattle.best_fit.specs.Rule.{best_fit_rule, best_fit_held, best_of, cell_at, cleared};
+ghost use Rattle.best_fit.specs.Rule.{best_fit_rule, best_of, cell_at, cleared};
 ghost use Rattle.best_fit.specs.Keeping.{best_fit_points};
 
 use crate::gap::{CELLS, Gap, better};
@@ -10,7 +10,6 @@ use faults::fault::Fault;
 use heaps::block::Bare;
 use heaps::heap::Heap;
 use heaps::limits::HEAP_BYTES;
-use std::marker::Model;
 
 const CELL_BYTES: u64 = 8;
 
@@ -21,20 +20,13 @@ pub struct BestFit {
     cells: [u16; CELLS],
     // no block starts at this cell or above: a search may stop there
     top: usize,
-}
-
-// A heap is seen as its cells.
-impl Model for BestFit {
-    ghost Value = { List ℕ };
-
-    ghost view = { λ h. h.cells };
-
-    ghost invariant = { λ h. IsTop h.top h.cells };
+    // A fact of the fields, and no model: a heap seen as a list alone would not tell its users how many cells it has.
+    ghost searched: { IsTop top cells },
 }
 
 impl BestFit {
     pub fn new() -> BestFit
-        ensures { result ≡ cleared }
+        ensures { result.cells ≡ cleared }
     {
         BestFit {
             cells: [0; CELLS],
@@ -45,7 +37,7 @@ impl BestFit {
     // The smallest gap that suffices, of equal gaps the lowest.
     fn find(&self, need: usize) -> Option<Gap>
         requires { 1 ≤ need }
-        ensures is { result ≡ best_of need None 0 0 0 self.now }
+        ensures is { result ≡ best_of need None 0 0 0 self.now.cells }
         ensures inside { IfSome result (λ g. g.start + need ≤ 512) }
     {
         // An iterator over the gaps, with `filter` and `min`, took up to 1.3 times as long as this walk, where 1.2 is allowed.
@@ -67,9 +59,8 @@ impl BestFit {
 
     // The cell of the living block that starts there.
     fn cell_at(&self, start: u64) -> Option<usize>
-        ensures cell { result ≡ cell_at self.now start }
+        ensures cell { result ≡ cell_at self.now.cells start }
         ensures within { IfSome result (λ i. i < 512) }
-        ensures cells { length self.now ≡ 512 }
     {
         let cells = &self.cells;
         if start % CELL_BYTES != 0 {
@@ -84,7 +75,7 @@ impl BestFit {
 impl Heap for BestFit {
     ghost rule = { best_fit_rule };
 
-    ghost state = { λ s. s };
+    ghost state = { λ s. s.cells };
 
     ghost points = { best_fit_points };
 
@@ -120,12 +111,8 @@ impl Heap for BestFit {
         Ok(())
     }
 
-    // It tells how many cells there are too: of a heap that is seen as a list, nothing else does.
     #[inline]
-    fn holds(&self, start: u64) -> Option<u64>
-        ensures held { result ≡ best_fit_held self.now start }
-        ensures cells { length self.now ≡ 512 }
-    {
+    fn holds(&self, start: u64) -> Option<u64> {
         self.cell_at(start)
             .map(|cell| CELL_BYTES * u64::from(self.cells[cell]))
     }

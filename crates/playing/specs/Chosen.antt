@@ -25,10 +25,10 @@ Direct = Choice BestFit Slots
 
 -- a direct heap of the name, without a block
 abbrev pub NewDirect : DirectName → Direct → Type 0
-NewDirect NamedBestFit (First b) = b ≡ best_fit.cleared
+NewDirect NamedBestFit (First b) = b.cells ≡ best_fit.cleared
 NewDirect NamedBestFit (Second s) = ⊥
 NewDirect NamedSlots (First b) = ⊥
-NewDirect NamedSlots (Second s) = s ≡ slots.cleared
+NewDirect NamedSlots (Second s) = slots.slotted s.taken s.next ≡ slots.cleared
 
 -- a heap of the name: below as many quarantines as it says, in which nothing waits
 abbrev pub NewHeap : HeapName → Choice Direct (Choice (Quarantine Direct) (Quarantine (Quarantine Direct))) → Type 0

@@ -1,13 +1,12 @@
 // The slot heap and its calls.
-ghost use Rattle.std.specs.Prelude.{◌≡◌, ◌<◌, IfSome, length};
-ghost use Rattle.slots.specs.Rule.{Slotted, slots_rule, slots_held, slotted, cleared, first_free, slot_at};
+ghost use Rattle.std.specs.Prelude.{◌≡◌, ◌<◌, IfSome};
+ghost use Rattle.slots.specs.Rule.{slots_rule, slotted, cleared, first_free, slot_at};
 ghost use Rattle.slots.specs.Keeping.{slots_points};
 
 use faults::cause::Cause;
 use faults::fault::Fault;
 use heaps::block::Bare;
 use heaps::heap::Heap;
-use std::marker::Model;
 
 const SLOTS: usize = 16;
 
@@ -18,20 +17,13 @@ pub struct Slots {
     taken: [bool; SLOTS],
     // the slot that a take tries first
     next: usize,
-}
-
-// A heap is seen as which of its slots are taken, and the one that is tried first.
-impl Model for Slots {
-    ghost Value = { Slotted };
-
-    ghost view = { λ s. slotted s.taken s.next };
-
-    ghost invariant = { λ s. s.next < 16 };
+    // A fact of the fields, and no model: a heap seen as a list alone would not tell its users how many slots it has.
+    ghost within: { next < 16 },
 }
 
 impl Slots {
     pub fn new() -> Slots
-        ensures { result ≡ cleared }
+        ensures { slotted result.taken result.next ≡ cleared }
     {
         Slots {
             taken: [false; SLOTS],
@@ -55,8 +47,6 @@ impl Slots {
     fn slot_at(&self, start: u64) -> Option<usize>
         ensures slot { result ≡ slot_at self.now.taken start }
         ensures within { IfSome result (λ i. i < 16) }
-        ensures slots { length self.now.taken ≡ 16 }
-        ensures turn { self.now.next < 16 }
     {
         let slots = &self.taken;
         if start % SLOT_BYTES != 0 {
@@ -71,7 +61,7 @@ impl Slots {
 impl Heap for Slots {
     ghost rule = { slots_rule };
 
-    ghost state = { λ s. s };
+    ghost state = { λ s. slotted s.taken s.next };
 
     ghost points = { slots_points };
 
@@ -96,12 +86,7 @@ impl Heap for Slots {
         Ok(())
     }
 
-    // It tells how many slots there are too, and that the next one tried is one of them.
-    fn holds(&self, start: u64) -> Option<u64>
-        ensures held { result ≡ slots_held self.now start }
-        ensures slots { length self.now.taken ≡ 16 }
-        ensures turn { self.now.next < 16 }
-    {
+    fn holds(&self, start: u64) -> Option<u64> {
         self.slot_at(start).map(|_| SLOT_BYTES)
     }
 
