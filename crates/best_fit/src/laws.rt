@@ -1,5 +1,6 @@
 // The best-fit heap's rule in plain words, and worked examples of it.
-ghost use Rattle.std.specs.Prelude.{◌≡◌, None};
+ghost use Rattle.std.specs.Prelude.{◌≡◌, ◌+◌, None};
+ghost use Rattle.best_fit.specs.Rule.{best_fit_held};
 ghost use Rattle.best_fit.specs.Fits.{AlwaysBest};
 ghost use Rattle.best_fit.specs.Examples.{Examples};
 
@@ -18,7 +19,8 @@ pub fn best_fit_examples()
 
 // Of a heap of which nothing else is known: no block starts behind its bytes.
 pub fn nothing_starts_behind(heap: &BestFit, past: u16) -> Option<u64>
-    ensures { result ≡ None }
+    ensures held { result ≡ best_fit_held heap.now.cells (4096 + past) }
+    ensures none { result ≡ None }
 {
     heap.holds(HEAP_BYTES + u64::from(past))
 }

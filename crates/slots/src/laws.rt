@@ -1,5 +1,6 @@
 // The slot heap's rule in plain words.
-ghost use Rattle.std.specs.Prelude.{◌≡◌, None};
+ghost use Rattle.std.specs.Prelude.{◌≡◌, ◌+◌, None};
+ghost use Rattle.slots.specs.Rule.{slots_held, slotted};
 ghost use Rattle.slots.specs.Turns.{AlwaysInTurn};
 
 use crate::heap::Slots;
@@ -14,7 +15,8 @@ pub fn slots_are_granted_in_turn()
 
 // Of a heap of which nothing else is known: no block starts behind its bytes.
 pub fn nothing_starts_behind(heap: &Slots, past: u16) -> Option<u64>
-    ensures { result ≡ None }
+    ensures held { result ≡ slots_held (slotted heap.now.taken heap.now.next) (4096 + past) }
+    ensures none { result ≡ None }
 {
     heap.holds(HEAP_BYTES + u64::from(past))
 }
